@@ -1,0 +1,148 @@
+-- Values built up over the numbers below n: a fold, a maximum, a list.
+use Prim.Native.Nat.{ℕ, zero, suc, _+_, _-_, _<_, _≤_, max, min}
+use native.Mathlib.Omega.{arith}
+use native.Mathlib.Numerals.{add-one}
+use native.Mathlib.Nat.{sub-zero, suc-sub-suc, eq-or-lt-of-le}
+use mathlib.Core.Logic.{⊎-elim}
+use mathlib.Core.Bool.{Bool, true, false, cond, _||_}
+use mathlib.Core.List.{List, [], _∷_, _++_, append-assoc}
+use mathlib.Core.Path.{_≡_, refl, sym, ap, _∙_}
+use lib.ListN.{length, getD, set, drop, replicate, length-append, length-set, length-replicate, List·getD-append}
+use lib.Seq.{set-at, getD-at, drop-at, drop-cons, drop-set-lt, getD-set-same}
+use Rattle.laws.specs.Search.{anyBelow}
+
+-- f's changes for 0, 1, .. n - 1, made one after the other.
+unfoldable pub foldBelow : {A : Type 0} → ℕ → (ℕ → A → A) → A → A
+foldBelow zero f a = a
+foldBelow (suc n) f a = f n (foldBelow n f a)
+
+pub fold-none : {A : Type 0} (f : ℕ → A → A) (a : A) → foldBelow 0 f a ≡ a
+unfolding foldBelow
+fold-none f a = refl
+
+pub fold-more : {A : Type 0} (n : ℕ) (f : ℕ → A → A) (a : A) → foldBelow (n + 1) f a ≡ f n (foldBelow n f a)
+unfolding foldBelow
+fold-more n f a = rw add-one
+
+-- What every change keeps, the fold keeps.
+pub fold-keeps : {A B : Type 0} (n : ℕ) (f : ℕ → A → A) (g : A → B)
+    → ((i : ℕ) (a : A) → g (f i a) ≡ g a) → (a : A) → g (foldBelow n f a) ≡ g a
+unfolding foldBelow
+fold-keeps zero f g h a = refl
+fold-keeps (suc n) f g h a = h n (foldBelow n f a) ∙ fold-keeps n f g h a
+
+-- The largest of f's values at 0, 1, .. n - 1, and 0 where there is none.
+unfoldable pub maxBelow : ℕ → (ℕ → ℕ) → ℕ
+maxBelow zero f = 0
+maxBelow (suc n) f = max (f n) (maxBelow n f)
+
+pub max-none : (f : ℕ → ℕ) → maxBelow 0 f ≡ 0
+unfolding maxBelow
+max-none f = refl
+
+pub max-more : (n : ℕ) (f : ℕ → ℕ) → maxBelow (n + 1) f ≡ max (f n) (maxBelow n f)
+unfolding maxBelow
+max-more n f = rw add-one
+
+pub max-same : (n : ℕ) (f g : ℕ → ℕ) → ((i : ℕ) → i < n → f i ≡ g i) → maxBelow n f ≡ maxBelow n g
+unfolding maxBelow
+max-same zero f g h = refl
+max-same (suc n) f g h = rw (h n (omega arith), max-same n f g (λ i l. h i (omega arith)))
+
+-- A test as a number.
+abbrev pub flag : Bool → ℕ
+flag t = cond t 1 0
+
+-- The largest of tests is whether one of them holds.
+pub max-flags : (n : ℕ) (p : ℕ → Bool) → maxBelow n (λ i. flag (p i)) ≡ flag (anyBelow n p)
+unfolding maxBelow anyBelow
+max-flags zero p = refl
+max-flags (suc n) p = rw (max-flags n p) (cases (p n) (anyBelow n p))
+  where
+    cases : (s t : Bool) → max (flag s) (flag t) ≡ flag (s || t)
+    cases true true = refl
+    cases true false = refl
+    cases false true = refl
+    cases false false = refl
+
+-- The list of f's values at 0, 1, .. n - 1.
+unfoldable pub upTo : {A : Type 0} → ℕ → (ℕ → A) → List A
+upTo zero f = []
+upTo (suc n) f = upTo n f ++ (f n ∷ [])
+
+pub length-upTo : {A : Type 0} (n : ℕ) (f : ℕ → A) → length (upTo n f) ≡ n
+unfolding upTo
+length-upTo zero f = refl
+length-upTo (suc n) f = length-append (upTo n f) (f n ∷ []) ∙ rw (length-upTo n f) (add-one n)
+
+pub upTo-at : {A : Type 0} (n j : ℕ) (f : ℕ → A) (z : A) → j < n → getD (upTo n f) j z ≡ f j
+unfolding upTo
+upTo-at zero j f z h = absurd (omega arith)
+upTo-at (suc n) j f z h =
+    let le : j ≤ n = omega arith in
+    ⊎-elim (λ (e : j ≡ n). rw e (getD-at (upTo n f) (f n) [] z n (length-upTo n f)))
+    (λ (l : j < n). List·getD-append (upTo n f) (f n ∷ []) z j (rw (length-upTo n f) l) ∙ upTo-at n j f z l)
+    (eq-or-lt-of-le le)
+
+-- An array of the given size: f's values at its first n places, and z in the places after them.
+unfoldable pub column : {A : Type 0} → ℕ → ℕ → (ℕ → A) → A → List A
+column size n f z = upTo (min n size) f ++ replicate (size - n) z
+
+pub column-at : {A : Type 0} (size n j : ℕ) (f : ℕ → A) (z d : A) → j < n → j < size → getD (column size n f z) j d ≡ f j
+unfolding column
+column-at size n j f z d h k =
+    let low : j < min n size = omega arith in
+    List·getD-append (upTo (min n size) f) (replicate (size - n) z) d j (rw (length-upTo (min n size) f) low)
+    ∙ upTo-at (min n size) j f d low
+
+pub length-column : {A : Type 0} (size n : ℕ) (f : ℕ → A) (z : A) → length (column size n f z) ≡ size
+unfolding column
+length-column size n f z =
+    length-append (upTo (min n size) f) (replicate (size - n) z)
+    ∙ rw (length-upTo (min n size) f, length-replicate (size - n) z) (omega arith)
+
+-- A loop that fills the array from its first place on: the blank array, one more value, the whole.
+
+pub column-none : {A : Type 0} (size : ℕ) (f : ℕ → A) (z : A) → replicate size z ≡ column size 0 f z
+unfolding column upTo
+column-none size f z =
+    let e : min 0 size ≡ 0 = omega arith in
+    rw (e, sub-zero)
+
+replicate-next : {A : Type 0} (m i : ℕ) (z : A) → i < m → replicate (m - i) z ≡ z ∷ replicate (m - (i + 1)) z
+replicate-next m i z h =
+    let e : m - i ≡ suc (m - (i + 1)) = omega arith in
+    rw e
+
+pub column-more : {A : Type 0} (size i : ℕ) (f : ℕ → A) (z : A) → i < size
+    → set (column size i f z) i (f i) ≡ column size (i + 1) f z
+unfolding column upTo
+column-more size i f z h =
+    let here : min i size ≡ i = omega arith in
+    let next : min (i + 1) size ≡ suc i = omega arith in
+    rw
+    (here, next, replicate-next size i z h,
+    set-at (upTo i f) z (replicate (size - (i + 1)) z) (f i) i (length-upTo i f))
+    (sym (append-assoc (upTo i f) (f i ∷ []) (replicate (size - (i + 1)) z)))
+
+-- A loop that fills it from its last place back: what the array holds from place k on.
+
+drop-replicate : {A : Type 0} (m n : ℕ) (z : A) → n ≤ m → drop n (replicate m z) ≡ replicate (m - n) z
+drop-replicate m zero z h = rw sub-zero
+drop-replicate zero (suc n) z h = absurd (omega arith)
+drop-replicate (suc m) (suc n) z h = drop-replicate m n z (omega arith) ∙ rw suc-sub-suc
+
+pub back-none : {A : Type 0} (size n : ℕ) (f : ℕ → A) (z : A)
+    → drop (min n size) (replicate size z) ≡ drop (min n size) (column size n f z)
+unfolding column
+back-none size n f z =
+    let e : size - min n size ≡ size - n = omega arith in
+    drop-replicate size (min n size) z (omega arith)
+    ∙ rw e (sym (drop-at (upTo (min n size) f) (replicate (size - n) z) (min n size) (length-upTo (min n size) f)))
+
+pub back-more : {A : Type 0} (out target : List A) (j : ℕ) (a z : A) → j < length out → length out ≡ length target
+    → drop (suc j) out ≡ drop (suc j) target → a ≡ getD target j z → drop j (set out j a) ≡ drop j target
+back-more out target j a z h k e f =
+    rw
+    (drop-cons (set out j a) j z (simp length-set h), getD-set-same out j a z h, drop-set-lt (suc j) out j a (omega arith), e,
+    f, drop-cons target j z (omega arith))

@@ -1,0 +1,4 @@
+pub mod Search
+pub mod Fold
+pub mod Refusal
+pub mod Signed

@@ -1,0 +1,52 @@
+-- Refusals in the order in which they are given: the number of the first whose test holds.
+-- Document 01: "If several apply, the lowest number is given, but 32 goes before all."
+use Prim.Native.Nat.{ℕ, _<_}
+use native.Mathlib.Omega.{arith}
+use mathlib.Core.Path.{_≡_, refl}
+use mathlib.Core.Bool.{Bool, true, false, cond}
+use mathlib.Core.List.{List, [], _∷_}
+use lib.Dec.{T, ltb, ltb→lt}
+
+pub data Refusal : Type 0 where
+  when : Bool → ℕ → Refusal
+
+-- The number of the first refusal whose test holds, and 0 where none does.
+unfoldable pub firstOf : List Refusal → ℕ
+firstOf [] = 0
+firstOf (when test number ∷ rest) = cond test number (firstOf rest)
+
+-- The same test by test, as a ladder of ifs meets it: `skip` a test that fails, `hit` the one that holds.
+pub data First : List Refusal → ℕ → Type 0 where
+  none : First [] 0
+  hit : {t : Bool} {k : ℕ} {r : List Refusal} → t ≡ true → First (when t k ∷ r) k
+  skip : {t : Bool} {n k : ℕ} {r : List Refusal} → t ≡ false → First r k → First (when t n ∷ r) k
+
+pub first : {l : List Refusal} {k : ℕ} → First l k → k ≡ firstOf l
+unfolding firstOf
+first none = refl
+first (hit e) = rw e
+first (skip e f) = rw e (first f)
+
+-- Each test fails: the tests' equations, in their order.
+abbrev pub Passed : List Refusal → Type 0
+Passed [] = Unit {0}
+Passed (when t k ∷ r) = (t ≡ false) × Passed r
+
+-- No refusal has the number 0, which means acceptance.
+abbrev pub Numbered : List Refusal → Type 0
+Numbered [] = Unit {0}
+Numbered (when t k ∷ r) = T (ltb 0 k) × Numbered r
+
+pub passed : (l : List Refusal) → Numbered l → firstOf l ≡ 0 → Passed l
+unfolding firstOf
+passed [] n e = tt
+passed (when true k ∷ r) n e =
+    let e′ : k ≡ 0 = e in
+    absurd (omega (arith, ltb→lt 0 k (n .0)))
+passed (when false k ∷ r) n e = (refl, passed r (n .1) e)
+
+-- And back: where each test fails, nothing is refused.
+pub accepted : (l : List Refusal) → Passed l → firstOf l ≡ 0
+unfolding firstOf
+accepted [] p = refl
+accepted (when t k ∷ r) p = rw (p .0) (accepted r (p .1))
