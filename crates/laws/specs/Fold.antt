@@ -101,6 +101,14 @@ length-column size n f z =
     length-append (upTo (min n size) f) (replicate (size - n) z)
     ∙ rw (length-upTo (min n size) f, length-replicate (size - n) z) (omega arith)
 
+-- More places than the array has are as many as it has.
+pub column-min : {A : Type 0} (size n : ℕ) (f : ℕ → A) (z : A) → column size (min n size) f z ≡ column size n f z
+unfolding column
+column-min size n f z =
+    let front : min (min n size) size ≡ min n size = omega arith in
+    let rest : size - min n size ≡ size - n = omega arith in
+    rw (front, rest)
+
 -- A loop that fills the array from its first place on: the blank array, one more value, the whole.
 
 pub column-none : {A : Type 0} (size : ℕ) (f : ℕ → A) (z : A) → replicate size z ≡ column size 0 f z
@@ -146,3 +154,15 @@ back-more out target j a z h k e f =
     rw
     (drop-cons (set out j a) j z (simp length-set h), getD-set-same out j a z h, drop-set-lt (suc j) out j a (omega arith), e,
     f, drop-cons target j z (omega arith))
+
+-- Four values one after the other are a fold, or a maximum, below 4.
+
+pub fold-four : {A : Type 0} (f : ℕ → A → A) (a : A) → foldBelow 4 f a ≡ f 3 (f 2 (f 1 (f 0 a)))
+unfolding foldBelow
+fold-four f a = refl
+
+pub max-four : (f : ℕ → ℕ) → max (f 3) (max (f 2) (max (f 1) (f 0))) ≡ maxBelow 4 f
+unfolding maxBelow
+max-four f =
+    let e : max (f 0) 0 ≡ f 0 = omega arith in
+    rw e

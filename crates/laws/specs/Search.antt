@@ -157,3 +157,11 @@ four p e f g h k = rw (e, f, g, h, k) (ap (λ (t : Bool). p 3 || (p 2 || (p 1 ||
     end : (t : Bool) → t ≡ (t || false)
     end true = refl
     end false = refl
+
+-- What holds of four places holds of each number below 4.
+pub each-of-four : (P : ℕ → Type 0) → P 0 → P 1 → P 2 → P 3 → (i : ℕ) → i < 4 → P i
+each-of-four P a b c d zero h = a
+each-of-four P a b c d (suc zero) h = b
+each-of-four P a b c d (suc (suc zero)) h = c
+each-of-four P a b c d (suc (suc (suc zero))) h = d
+each-of-four P a b c d (suc (suc (suc (suc i)))) h = absurd (omega arith)
