@@ -1,0 +1,153 @@
+//! Admission: which jobs may be inserted into a batch, as far as the job and the number of cells decide it.
+
+ghost use mathlib.Core.Path.{_≡_};
+ghost use mathlib.Core.Bool.{_||_};
+ghost use Prim.Native.Nat.{_<_, _≤_};
+ghost use Rattle.laws.specs.Search.{anyBelow};
+ghost use Rattle.laws.specs.Refusal.{firstOf};
+ghost use Rattle.admission.specs.Admission.{cellBefore, faultsAt, firstModes, kindFits, refusals, jobRefusal};
+use dependence::Job;
+use dependence::READ;
+use dependence::UNCERTAIN_WRITE;
+use dependence::WRITE;
+
+/// Stands in the places of a list of modes that the kind does not use.
+const NONE: u8 = 0;
+
+/// What is wrong with the access at one place of a job. Of a place that is not in use nothing is.
+struct Faults {
+    cell: bool,
+    mode: bool,
+    repeated: bool,
+}
+
+/// Whether one of the four holds.
+fn any4(a: bool, b: bool, c: bool, d: bool) -> bool
+    ensures { λ r. ⌜ r ≡ (d || (c || (b || a))) ⌝ }
+{
+    if d {
+        return true;
+    }
+    if c {
+        return true;
+    }
+    if b {
+        return true;
+    }
+    a
+}
+
+/// Whether the cell at place `i` stands at an earlier place too.
+fn repeats(job: Job, i: usize) -> bool
+    requires { ⌜ i < 4 ⌝ }
+    ensures { λ r. ⌜ r ≡ anyBelow i (cellBefore job i) ⌝ }
+{
+    let access = job.accesses[i];
+    let mut k: usize = 0;
+    while k < i {
+        let earlier = job.accesses[k];
+        if earlier.cell == access.cell {
+            return true;
+        }
+        k += 1;
+    }
+    false
+}
+
+/// The faults of the access at place `i`.
+fn faults_at(job: Job, cell_count: u8, i: usize) -> Faults
+    requires { ⌜ i < 4 ⌝ }
+    ensures { λ r. ⌜ r ≡ faultsAt job «cell_count» i ⌝ }
+{
+    if (job.arity as usize) <= i {
+        return Faults {
+            cell: false,
+            mode: false,
+            repeated: false,
+        };
+    }
+    let access = job.accesses[i];
+    let repeated = repeats(job, i);
+    Faults {
+        cell: cell_count <= access.cell,
+        mode: UNCERTAIN_WRITE < access.mode,
+        repeated,
+    }
+}
+
+/// Whether the job has `count` accesses, whose modes are the first of `modes`.
+fn has_modes(job: Job, count: u8, modes: [u8; 3]) -> bool
+    requires { ⌜ count ≤ 3 ⌝ }
+    ensures { λ r. ⌜ r ≡ firstModes job count modes ⌝ }
+{
+    if job.arity != count {
+        return false;
+    }
+    let mut i: usize = 0;
+    while i < (count as usize) {
+        let access = job.accesses[i];
+        let mode = modes[i];
+        if access.mode != mode {
+            return false;
+        }
+        i += 1;
+    }
+    true
+}
+
+/// Whether the kind is one of the seven and the job's modes are the kind's.
+fn kind_fits(job: Job) -> bool
+    ensures { λ r. ⌜ r ≡ kindFits job ⌝ }
+{
+    let kind = job.kind;
+    match kind {
+        0 => true,
+        1 => has_modes(job, 1, [WRITE, NONE, NONE]),
+        2 => has_modes(job, 1, [WRITE, NONE, NONE]),
+        3 => has_modes(job, 2, [UNCERTAIN_WRITE, READ, NONE]),
+        4 => has_modes(job, 1, [UNCERTAIN_WRITE, NONE, NONE]),
+        5 => has_modes(job, 3, [WRITE, READ, READ]),
+        6 => has_modes(job, 2, [UNCERTAIN_WRITE, UNCERTAIN_WRITE, NONE]),
+        7..=255 => false,
+    }
+}
+
+/// The number of the first test that fails, in the order of the numbers, or 0.
+fn refusal_of(arity: u8, cell: bool, mode: bool, repeated: bool, fits: bool) -> u8
+    ensures { λ r. ⌜ r ≡ firstOf (refusals arity cell mode repeated fits) ⌝ }
+{
+    if arity == 0 {
+        return 4;
+    }
+    if 4 < arity {
+        return 4;
+    }
+    if cell {
+        return 5;
+    }
+    if mode {
+        return 6;
+    }
+    if repeated {
+        return 7;
+    }
+    if !fits {
+        return 8;
+    }
+    0
+}
+
+/// Why the job is not inserted into a batch of `cell_count` cells, 4 to 8, or 0 where it may be.
+pub fn job_refusal(job: Job, cell_count: u8) -> u8
+    ensures { λ r. ⌜ r ≡ jobRefusal job «cell_count» ⌝ }
+{
+    let a = faults_at(job, cell_count, 0);
+    let b = faults_at(job, cell_count, 1);
+    let c = faults_at(job, cell_count, 2);
+    let d = faults_at(job, cell_count, 3);
+    let cell = any4(a.cell, b.cell, c.cell, d.cell);
+    let mode = any4(a.mode, b.mode, c.mode, d.mode);
+    let repeated = any4(a.repeated, b.repeated, c.repeated, d.repeated);
+    let fits = kind_fits(job);
+    refusal_of(job.arity, cell, mode, repeated, fits)
+}

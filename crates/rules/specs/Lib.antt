@@ -1,0 +1,6 @@
+pub mod Values
+pub mod Walk
+pub mod Snapshot
+pub mod Speculation
+pub mod Call
+pub mod Refusals

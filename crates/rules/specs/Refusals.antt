@@ -1,0 +1,72 @@
+-- What is refused, in the order of the numbers. Document 01: "If several apply, the lowest number is given."
+-- (32, a record out of form, goes before all: the engine's own definitions add it.)
+use Prim.Native.Nat.{ℕ}
+use mathlib.Core.Bool.{Bool, not, _||_}
+use mathlib.Core.List.{List, [], _∷_}
+use lib.Dec.{leb, ltb}
+use Rattle.laws.specs.Refusal.{Refusal, when, firstOf}
+use Rattle.dependence.specs.declared.Job.{Job}
+use Rattle.admission.specs.Admission.{jobRefusals}
+use Rattle.rules.specs.Values.{wroteRefused}
+use Rattle.rules.specs.Snapshot.{Snapshot, neverStarted, isOut, isStored}
+use Rattle.rules.specs.Speculation.{isReady, isInvalid, isValid, sourceMissing}
+use Rattle.rules.specs.Call.{Call, insert, seal, startOwn, startSpeculation, reportOwn, reportSpeculation, commit}
+
+-- "2: insert or seal after sealing. 3: 128 jobs are held." Then 4 to 8, as the job alone decides.
+abbrev pub insertTests : Snapshot → Job → List Refusal
+insertTests s job = when (s .sealed) 2 ∷ when (leb 128 (s .jobCount)) 3 ∷ jobRefusals job (s .cellCount)
+
+-- "9: guess switch not 0 or 1."
+abbrev pub sealTests : Snapshot → ℕ → List Refusal
+sealTests s switch = when (s .sealed) 2 ∷ when (ltb 1 switch) 9 ∷ []
+
+-- "10: step or choice before sealing. 11: job number not below the job count."
+abbrev pub stepTests : Snapshot → ℕ → List Refusal → List Refusal
+stepTests s j rest = when (not (s .sealed)) 10 ∷ when (leb (s .jobCount) j) 11 ∷ rest
+
+-- "13: start own when settled or its own run is out. 15: start own of a job not ready. 17: start own while its guess
+-- stands."
+abbrev pub startOwnTests : Snapshot → ℕ → List Refusal
+startOwnTests s j =
+    stepTests s j
+    (when (s .committed j || s .running j) 13 ∷ when (not (isReady s j)) 15 ∷ when (isValid s j) 17 ∷ [])
+
+-- "12: start guess with guessing off. 13: start guess when settled, its own run is out, or a guess was ever started.
+-- 14: start guess of a ready job. 15: start guess when a writer met has no stored report or its guess has fallen."
+abbrev pub startSpeculationTests : Snapshot → ℕ → List Refusal
+startSpeculationTests s j =
+    stepTests s j
+    (when (not (s .speculating)) 12
+    ∷ when (s .committed j || (s .running j || not (neverStarted (s .phase j)))) 13
+    ∷ when (isReady s j) 14
+    ∷ when (sourceMissing s j) 15
+    ∷ [])
+
+-- "13: report own or guess when that run is not out (a thrown-away guess is not). 16: mark not 0 or 1, or 1 from a job
+-- without mode 2."
+abbrev pub reportOwnTests : Snapshot → ℕ → ℕ → List Refusal
+reportOwnTests s j wrote =
+    stepTests s j (when (not (s .running j)) 13 ∷ when (wroteRefused (s .job j) wrote) 16 ∷ [])
+
+abbrev pub reportSpeculationTests : Snapshot → ℕ → ℕ → List Refusal
+reportSpeculationTests s j wrote =
+    stepTests s j (when (not (isOut (s .phase j))) 13 ∷ when (wroteRefused (s .job j) wrote) 16 ∷ [])
+
+-- "13: settle when settled or no guess is in stored state. 15: settle of a job not ready. 18: settle a fallen guess."
+abbrev pub commitTests : Snapshot → ℕ → List Refusal
+commitTests s j =
+    stepTests s j
+    (when (s .committed j || not (isStored (s .phase j))) 13 ∷ when (not (isReady s j)) 15 ∷ when (isInvalid s j) 18 ∷ [])
+
+-- The tests of a call, and the number with which the rules refuse it, 0 where they allow it.
+abbrev pub testsOf : Snapshot → Call → List Refusal
+testsOf s (insert job) = insertTests s job
+testsOf s (seal switch) = sealTests s switch
+testsOf s (startOwn j) = startOwnTests s j
+testsOf s (startSpeculation j) = startSpeculationTests s j
+testsOf s (reportOwn j values wrote) = reportOwnTests s j wrote
+testsOf s (reportSpeculation j values wrote) = reportSpeculationTests s j wrote
+testsOf s (commit j) = commitTests s j
+
+unfoldable pub refusalOf : Snapshot → Call → ℕ
+refusalOf s call = firstOf (testsOf s call)

@@ -1,0 +1,61 @@
+-- Ready jobs, and guesses that have fallen or stand, in a snapshot.
+use Prim.Native.Nat.{ℕ, zero, suc, _-_}
+use mathlib.Core.Bool.{Bool, false, cond, not, _&&_, _||_}
+use mathlib.Core.List.{List, [], _∷_, _++_}
+use lib.Dec.{eqb, ltb}
+use lib.ListN.{getD}
+use Rattle.laws.specs.Search.{anyBelow}
+use Rattle.dependence.specs.Job.{inUse, accessAt}
+use Rattle.dependence.specs.Conflict.{conflicts}
+use Rattle.rules.specs.Walk.{sourceBelow, bypassAt}
+use Rattle.rules.specs.Snapshot.{Snapshot, isStored, isDiscarded, isLive}
+
+-- "A job is ready when each earlier conflicting job is settled."
+abbrev pub waits : Snapshot → ℕ → ℕ → Bool
+waits s j i = not (s .committed i) && conflicts (s .job i) (s .job j)
+
+unfoldable pub isReady : Snapshot → ℕ → Bool
+isReady s j = not (anyBelow j (waits s j))
+
+-- Where a guess of job j, started now, takes the value at a place from.
+abbrev pub sourceNow : Snapshot → ℕ → ℕ → ℕ
+sourceNow s j place =
+    cond (inUse (s .job j) place) (sourceBelow (s .job) (s .committed) (accessAt (s .job j) place .cell) j) 0
+
+-- The jobs that it looks past.
+abbrev pub bypassPlace : Snapshot → ℕ → ℕ → ℕ → Bool
+bypassPlace s j i place =
+    inUse (s .job j) place && bypassAt (s .job) (s .committed) (accessAt (s .job j) place .cell) (sourceNow s j place) i
+
+abbrev pub bypassedNow : Snapshot → ℕ → ℕ → Bool
+bypassedNow s j i = ltb i j && anyBelow 4 (bypassPlace s j i)
+
+-- "A guess has fallen if a job it looked past is settled with mark 1, or a guess it took from has fallen or been thrown
+-- away." Fallen is `invalid` here. Guesses take from earlier jobs only, so the jobs are judged in their order:
+-- `earlier` tells which guesses of the jobs before j have fallen.
+abbrev pub sourceLost : Snapshot → List Bool → ℕ → Bool
+sourceLost s earlier source =
+    cond (eqb source 0) false (isDiscarded (s .phase (source - 1)) || getD earlier (source - 1) false)
+
+abbrev pub invalidGiven : Snapshot → List Bool → ℕ → Bool
+invalidGiven s earlier j =
+    isLive (s .phase j)
+    && (anyBelow j (λ i. s .bypassed j i && s .wrote i) || anyBelow 4 (λ place. sourceLost s earlier (s .source j place)))
+
+unfoldable pub invalidBelow : Snapshot → ℕ → List Bool
+invalidBelow s zero = []
+invalidBelow s (suc j) = invalidBelow s j ++ (invalidGiven s (invalidBelow s j) j ∷ [])
+
+unfoldable pub isInvalid : Snapshot → ℕ → Bool
+isInvalid s j = invalidGiven s (invalidBelow s j) j
+
+-- "A ready job's guess that has not fallen stands."
+abbrev pub isValid : Snapshot → ℕ → Bool
+isValid s j = isLive (s .phase j) && not (isInvalid s j)
+
+-- A guess of job j cannot start: "a writer met has no stored report or its guess has fallen."
+abbrev pub unusable : Snapshot → ℕ → Bool
+unusable s source = cond (eqb source 0) false (not (isStored (s .phase (source - 1))) || isInvalid s (source - 1))
+
+abbrev pub sourceMissing : Snapshot → ℕ → Bool
+sourceMissing s j = anyBelow 4 (λ place. unusable s (sourceNow s j place))
