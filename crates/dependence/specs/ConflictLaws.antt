@@ -32,11 +32,11 @@ conflicts-symmetric a b =
     ∙ any-swap 4 4 (λ i k. inUse a i && touchesAt (accessAt a i) b k)
     ∙ any-same 4 (λ k. anyBelow 4 (λ i. inUse a i && touchesAt (accessAt a i) b k)) (conflictAt b a)
     (λ k l.
-      any-same 4 (λ i. inUse a i && touchesAt (accessAt a i) b k) (λ i. inUse b k && touchesAt (accessAt b k) a i)
-      (λ i m.
-        rw (accesses-symmetric (accessAt a i) (accessAt b k))
-        (swap (inUse a i) (inUse b k) (accessesConflict (accessAt b k) (accessAt a i))))
-      ∙ any-and 4 (inUse b k) (touchesAt (accessAt b k) a))
+    any-same 4 (λ i. inUse a i && touchesAt (accessAt a i) b k) (λ i. inUse b k && touchesAt (accessAt b k) a i)
+    (λ i m.
+    rw (accesses-symmetric (accessAt a i) (accessAt b k))
+    (swap (inUse a i) (inUse b k) (accessesConflict (accessAt b k) (accessAt a i))))
+    ∙ any-and 4 (inUse b k) (touchesAt (accessAt b k) a))
   where
     swap : (s t u : Bool) → (s && (t && u)) ≡ (t && (s && u))
     swap true true u = refl
@@ -70,7 +70,8 @@ conflicts-shared a b e =
       yours-place = g .below;
       mine-used = and-left (inUse a i) (touches (accessAt a i) b) (f .holds);
       yours-used = and-left (inUse b k) (accessesConflict (accessAt a i) (accessAt b k)) (g .holds);
-      conflict = and-right (inUse b k) (accessesConflict (accessAt a i) (accessAt b k)) (g .holds) }
+      conflict = and-right (inUse b k) (accessesConflict (accessAt a i) (accessAt b k)) (g .holds);
+    }
 
 -- A shared cell with a writer always conflicts.
 pub shared-conflicts : (a b : Job) (i k : ℕ) → i < 4 → k < 4 → inUse a i ≡ true → inUse b k ≡ true
@@ -102,9 +103,9 @@ pub readers-never-conflict : (a b : Job)
 readers-never-conflict a b ra rb =
     if-or (conflicts a b)
     (λ e.
-      let s = conflicts-shared a b e in
-      clash (s .conflict)
-      (reads-never-conflict (accessAt a (s .mine)) (accessAt b (s .yours)) (ra (s .mine) (s .mine-used)) (rb (s .yours) (s .yours-used))))
+    let s = conflicts-shared a b e in
+    clash (s .conflict)
+    (reads-never-conflict (accessAt a (s .mine)) (accessAt b (s .yours)) (ra (s .mine) (s .mine-used)) (rb (s .yours) (s .yours-used))))
     (λ f. f)
 
 -- A job without accesses conflicts with none.
@@ -112,6 +113,6 @@ pub no-job-no-conflict : (a : Job) → conflicts a noJob ≡ false
 no-job-no-conflict a =
     if-or (conflicts a noJob)
     (λ e.
-      let s = conflicts-shared a noJob e in
-      clash (s .yours-used) (ap not (le-leb 0 (s .yours) (omega arith))))
+    let s = conflicts-shared a noJob e in
+    clash (s .yours-used) (ap not (le-leb 0 (s .yours) (omega arith))))
     (λ f. f)

@@ -34,9 +34,9 @@ committed-ready jobs committed j h =
     ap not
     (any-absent j (blocks jobs committed j)
     (λ i l.
-      if-or (conflicts (jobAt jobs i) (jobAt jobs j))
-      (λ e. rw (e, h i l e))
-      (λ f. rw f (never (not (isCommitted (getD committed i 0)))))))
+    if-or (conflicts (jobAt jobs i) (jobAt jobs j))
+    (λ e. rw (e, h i l e))
+    (λ f. rw f (never (not (isCommitted (getD committed i 0)))))))
   where
     never : (t : Bool) → (t && false) ≡ false
     never true = refl

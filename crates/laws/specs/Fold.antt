@@ -128,9 +128,12 @@ unfolding column upTo
 column-more size i f z h =
     let here : min i size ≡ i = omega arith in
     let next : min (i + 1) size ≡ suc i = omega arith in
-    rw
-    (here, next, replicate-next size i z h,
-    set-at (upTo i f) z (replicate (size - (i + 1)) z) (f i) i (length-upTo i f))
+    rw (
+      here,
+      next,
+      replicate-next size i z h,
+      set-at (upTo i f) z (replicate (size - (i + 1)) z) (f i) i (length-upTo i f),
+    )
     (sym (append-assoc (upTo i f) (f i ∷ []) (replicate (size - (i + 1)) z)))
 
 -- A loop that fills it from its last place back: what the array holds from place k on.
@@ -151,9 +154,14 @@ back-none size n f z =
 pub back-more : {A : Type 0} (out target : List A) (j : ℕ) (a z : A) → j < length out → length out ≡ length target
     → drop (suc j) out ≡ drop (suc j) target → a ≡ getD target j z → drop j (set out j a) ≡ drop j target
 back-more out target j a z h k e f =
-    rw
-    (drop-cons (set out j a) j z (simp length-set h), getD-set-same out j a z h, drop-set-lt (suc j) out j a (omega arith), e,
-    f, drop-cons target j z (omega arith))
+    rw (
+      drop-cons (set out j a) j z (simp length-set h),
+      getD-set-same out j a z h,
+      drop-set-lt (suc j) out j a (omega arith),
+      e,
+      f,
+      drop-cons target j z (omega arith),
+    )
 
 -- Four values one after the other are a fold, or a maximum, below 4.
 

@@ -21,8 +21,9 @@ chainsFrom jobs n k starts = longest conflicts starts (drop k (take n jobs))
 
 chains-measure : (jobs : List Job) (n k : ℕ) → Measure (chainsFrom jobs n k)
 chains-measure jobs n k = record {
-    nobody = longest-none conflicts (drop k (take n jobs));
-    either = λ p q. longest-or conflicts p q (drop k (take n jobs)) }
+  nobody = longest-none conflicts (drop k (take n jobs));
+  either = λ p q. longest-or conflicts p q (drop k (take n jobs));
+}
 
 -- Where the pass stands when the jobs from k on are done.
 pub record ChainPass (jobs : List Job) (n k : ℕ) (lengths forReader forWriter : List ℕ) : Type 0 where
@@ -36,12 +37,13 @@ pub chain-start : (jobs : List Job) (n : ℕ) → length jobs ≡ 128
 unfolding longest
 chain-start jobs n long =
     let none : drop (min n 128) (take n jobs) ≡ [] =
-        drop-of-length-le (take n jobs) {i = min n 128} (simp length-take (omega arith)) in
+    drop-of-length-le (take n jobs) {i = min n 128} (simp length-take (omega arith)) in
     record {
       long = refl;
       done = back-none 128 n (chainLengthAt jobs n) 0;
       reader = rw none blank;
-      writer = rw none blank }
+      writer = rw none blank;
+    }
 
 module _ (jobs : List Job) (n j : ℕ) (lengths forReader forWriter : List ℕ) (long : length jobs ≡ 128) (low : j < min n 128)
     (bytes : ByteCells (jobAt jobs j)) (pass : ChainPass jobs n (suc j) lengths forReader forWriter) where
@@ -55,9 +57,10 @@ module _ (jobs : List Job) (n j : ℕ) (lengths forReader forWriter : List ℕ) 
   pub chain-short : met forReader forWriter (jobAt jobs j) < 128
   chain-short =
       rw chain-met
-      (omega
-      (arith,
-      simp (length-drop, length-take) at (longest-le conflicts (conflicts (jobAt jobs j)) (laterJobs jobs n j))))
+      (omega (
+        arith,
+        simp (length-drop, length-take) at (longest-le conflicts (conflicts (jobAt jobs j)) (laterJobs jobs n j)),
+      ))
 
   head : drop j (take n jobs) ≡ jobAt jobs j ∷ laterJobs jobs n j
   head =
@@ -81,12 +84,13 @@ module _ (jobs : List Job) (n j : ℕ) (lengths forReader forWriter : List ℕ) 
       record {
         long = length-set lengths j number ∙ pass .long;
         done =
-          back-more lengths (column 128 n (chainLengthAt jobs n) 0) j number 0 (omega (arith, pass .long))
-          (pass .long ∙ sym (length-column 128 n (chainLengthAt jobs n) 0)) (pass .done)
-          (is-length ∙ sym (column-at 128 n j (chainLengthAt jobs n) 0 0 (omega arith) (omega arith)));
+            back-more lengths (column 128 n (chainLengthAt jobs n) 0) j number 0 (omega (arith, pass .long))
+            (pass .long ∙ sym (length-column 128 n (chainLengthAt jobs n) 0)) (pass .done)
+            (is-length ∙ sym (column-at 128 n j (chainLengthAt jobs n) 0 0 (omega arith) (omega arith)));
         reader =
-          noted-table (chainsFrom jobs n (suc j)) (chainsFrom jobs n j) 0 (jobAt jobs j) number forReader (grows number is-length)
-          (pass .reader);
+            noted-table (chainsFrom jobs n (suc j)) (chainsFrom jobs n j) 0 (jobAt jobs j) number forReader (grows number is-length)
+            (pass .reader);
         writer =
-          noted-table (chainsFrom jobs n (suc j)) (chainsFrom jobs n j) 1 (jobAt jobs j) number forWriter (grows number is-length)
-          (pass .writer) }
+            noted-table (chainsFrom jobs n (suc j)) (chainsFrom jobs n j) 1 (jobAt jobs j) number forWriter (grows number is-length)
+            (pass .writer);
+      }

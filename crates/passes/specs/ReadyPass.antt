@@ -26,21 +26,24 @@ openBefore jobs committed j p = flag (anyBelow j (λ i. isOpen committed i && p 
 
 open-measure : (jobs : List Job) (committed : List ℕ) (j : ℕ) → Measure (openBefore jobs committed j)
 open-measure jobs committed j = record {
-    nobody = ap flag (any-absent j (λ i. isOpen committed i && false) (λ i l. never (isOpen committed i)));
-    either = λ p q.
+  nobody = ap flag (any-absent j (λ i. isOpen committed i && false) (λ i l. never (isOpen committed i)));
+  either = λ p q.
       ap flag
       (any-same j (λ i. isOpen committed i && (p (jobAt jobs i) || q (jobAt jobs i)))
       (λ i. (isOpen committed i && p (jobAt jobs i)) || (isOpen committed i && q (jobAt jobs i)))
       (λ i l. share (isOpen committed i) (p (jobAt jobs i)) (q (jobAt jobs i)))
       ∙ any-or j (λ i. isOpen committed i && p (jobAt jobs i)) (λ i. isOpen committed i && q (jobAt jobs i)))
-      ∙ flag-or (anyBelow j (λ i. isOpen committed i && p (jobAt jobs i))) (anyBelow j (λ i. isOpen committed i && q (jobAt jobs i))) }
+      ∙ flag-or (anyBelow j (λ i. isOpen committed i && p (jobAt jobs i))) (anyBelow j (λ i. isOpen committed i && q (jobAt jobs i)));
+}
   where
     never : (t : Bool) → (t && false) ≡ false
     never true = refl
     never false = refl
+
     share : (s t u : Bool) → (s && (t || u)) ≡ ((s && t) || (s && u))
     share true t u = refl
     share false t u = refl
+
     flag-or : (s t : Bool) → flag (s || t) ≡ max (flag s) (flag t)
     flag-or true true = refl
     flag-or true false = refl
@@ -65,11 +68,12 @@ module _ (jobs : List Job) (committed : List ℕ) (j : ℕ) (flags : List Bool) 
   ready-met : eqb (met forReader forWriter (jobAt jobs j)) 0 ≡ ready jobs committed j
   unfolding ready
   ready-met =
-      rw
-      (met-is (openBefore jobs committed j) (open-measure jobs committed j) forReader forWriter (jobAt jobs j) bytes (pass .reader)
-      (pass .writer),
-      any-same j (λ i. isOpen committed i && conflicts (jobAt jobs j) (jobAt jobs i)) (blocks jobs committed j)
-      (λ i l. ap (λ (t : Bool). isOpen committed i && t) (conflicts-symmetric (jobAt jobs j) (jobAt jobs i))))
+      rw (
+        met-is (openBefore jobs committed j) (open-measure jobs committed j) forReader forWriter (jobAt jobs j) bytes (pass .reader)
+            (pass .writer),
+        any-same j (λ i. isOpen committed i && conflicts (jobAt jobs j) (jobAt jobs i)) (blocks jobs committed j)
+            (λ i l. ap (λ (t : Bool). isOpen committed i && t) (conflicts-symmetric (jobAt jobs j) (jobAt jobs i))),
+      )
       (zero-flag (anyBelow j (blocks jobs committed j)))
     where
       zero-flag : (t : Bool) → eqb (flag t) 0 ≡ not t
@@ -93,14 +97,15 @@ module _ (jobs : List Job) (committed : List ℕ) (j : ℕ) (flags : List Bool) 
   -- The turn of job j.
   pub ready-step : (waiting number : ℕ) → waiting ≡ met forReader forWriter (jobAt jobs j) → number ≡ flag (isOpen committed j)
       → ReadyPass jobs committed (j + 1) (set flags j (eqb waiting 0)) (noted 0 (jobAt jobs j) number forReader)
-        (noted 1 (jobAt jobs j) number forWriter)
+      (noted 1 (jobAt jobs j) number forWriter)
   ready-step waiting number e f = record {
-      done = rw (pass .done, e, ready-met) (column-more 128 j (ready jobs committed) false low);
-      reader =
+    done = rw (pass .done, e, ready-met) (column-more 128 j (ready jobs committed) false low);
+    reader =
         rw (add-one, f)
         (noted-table (openBefore jobs committed j) (openBefore jobs committed (suc j)) 0 (jobAt jobs j) (flag (isOpen committed j)) forReader grows
         (pass .reader));
-      writer =
+    writer =
         rw (add-one, f)
         (noted-table (openBefore jobs committed j) (openBefore jobs committed (suc j)) 1 (jobAt jobs j) (flag (isOpen committed j)) forWriter grows
-        (pass .writer)) }
+        (pass .writer));
+  }

@@ -55,8 +55,8 @@ note-at-get : (mode : ℕ) (job : Job) (number i : ℕ) (table : List ℕ) (cell
 note-at-get mode job number i table cell h =
     if-or (eqb cell (accessAt job i .cell))
     (λ t.
-      let e = eqb-true cell (accessAt job i .cell) t in
-      rw (← e) (here (inUse job i && (eqb cell cell && not (isRead mode && isRead (accessAt job i .mode))))))
+    let e = eqb-true cell (accessAt job i .cell) t in
+    rw (← e) (here (inUse job i && (eqb cell cell && not (isRead mode && isRead (accessAt job i .mode))))))
     (λ f. rw f (there (eqb-false cell (accessAt job i .cell) f) (inUse job i) (accessesConflict (asked mode (accessAt job i .cell)) (accessAt job i))))
   where
     here : (t : Bool)
@@ -64,6 +64,7 @@ note-at-get mode job number i table cell h =
         ≡ cond t (max number (getD table cell 0)) (getD table cell 0)
     here true = getD-set-same table cell (max number (getD table cell 0)) 0 h
     here false = refl
+
     there : cell ≢ accessAt job i .cell → (s t : Bool)
         → getD (cond (s && t) (set table (accessAt job i .cell) (max number (getD table (accessAt job i .cell) 0))) table) cell 0
         ≡ cond (s && false) (max number (getD table cell 0)) (getD table cell 0)
@@ -81,7 +82,7 @@ noted-get mode job number (suc n) table cell h =
     let same = fold-keeps n (noteAt mode job number) length (λ i t. note-at-long mode job number i t) table in
     note-at-get mode job number n (foldBelow n (noteAt mode job number) table) cell (rw same h)
     ∙ rw (noted-get mode job number n table cell h)
-      (cases (touchesAt (asked mode cell) job n) (anyBelow n (touchesAt (asked mode cell) job)) number (getD table cell 0))
+    (cases (touchesAt (asked mode cell) job n) (anyBelow n (touchesAt (asked mode cell) job)) number (getD table cell 0))
   where
     cases : (s u : Bool) (x y : ℕ) → cond s (max x (cond u (max x y) y)) (cond u (max x y) y) ≡ cond (s || u) (max x y) y
     cases true true x y = omega arith
@@ -96,10 +97,11 @@ pub noted-table : (before after : (Job → Bool) → ℕ) (mode : ℕ) (job : Jo
     → Table (noted mode job number table) (λ cell. after (touches (asked mode cell)))
 unfolding noted touches
 noted-table before after mode job number table grows t = record {
-    long = fold-keeps 4 (noteAt mode job number) length (λ i u. note-at-long mode job number i u) table ∙ t .long;
-    holds = λ cell h.
+  long = fold-keeps 4 (noteAt mode job number) length (λ i u. note-at-long mode job number i u) table ∙ t .long;
+  holds = λ cell h.
       noted-get mode job number 4 table cell (omega (arith, t .long))
-      ∙ rw (t .holds cell h) (sym (grows (touches (asked mode cell)))) }
+      ∙ rw (t .holds cell h) (sym (grows (touches (asked mode cell))));
+}
 
 -- A conflict of accesses depends on a mode only by whether it is a read's.
 by-mode : (access : Access) → touches access
@@ -133,6 +135,7 @@ met-is measure m forReader forWriter job bytes r w =
             ≡ measure (cond t (touches (asked 0 (accessAt job i .cell))) (touches (asked 1 (accessAt job i .cell))))
         chosen true = refl
         chosen false = refl
+
         used : (u : Bool)
             → cond u (cond (isRead (accessAt job i .mode)) (measure (touches (asked 0 (accessAt job i .cell)))) (measure (touches (asked 1 (accessAt job i .cell))))) 0
             ≡ measure (λ later. u && (cond (isRead (accessAt job i .mode)) (touches (asked 0 (accessAt job i .cell))) (touches (asked 1 (accessAt job i .cell)))) later)

@@ -10,7 +10,6 @@ ghost use Rattle.dependence.specs.Job.{accessAt};
 ghost use Rattle.dependence.specs.Ready.{isCommitted, ready};
 ghost use Rattle.passes.specs.Chain.{chainLengthAt};
 ghost use Rattle.passes.specs.Tables.{ByteCells, metAt, met, noteAt, noted};
-
 use dependence::Access;
 use dependence::Job;
 

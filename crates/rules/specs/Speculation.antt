@@ -2,12 +2,11 @@
 use Prim.Native.Nat.{ℕ, zero, suc, _-_}
 use mathlib.Core.Bool.{Bool, false, cond, not, _&&_, _||_}
 use mathlib.Core.List.{List, [], _∷_, _++_}
-use lib.Dec.{eqb, ltb}
+use lib.Dec.{eqb}
 use lib.ListN.{getD}
 use Rattle.laws.specs.Search.{anyBelow}
-use Rattle.dependence.specs.Job.{inUse, accessAt}
 use Rattle.dependence.specs.Conflict.{conflicts}
-use Rattle.rules.specs.Walk.{sourceBelow, bypassAt}
+use Rattle.rules.specs.Walk.{sourceOf, bypasses}
 use Rattle.rules.specs.Snapshot.{Snapshot, isStored, isDiscarded, isLive}
 
 -- "A job is ready when each earlier conflicting job is settled."
@@ -17,18 +16,12 @@ waits s j i = not (s .committed i) && conflicts (s .job i) (s .job j)
 unfoldable pub isReady : Snapshot → ℕ → Bool
 isReady s j = not (anyBelow j (waits s j))
 
--- Where a guess of job j, started now, takes the value at a place from.
+-- Where a guess of job j, started now, takes the value at a place from, and the jobs that it looks past.
 abbrev pub sourceNow : Snapshot → ℕ → ℕ → ℕ
-sourceNow s j place =
-    cond (inUse (s .job j) place) (sourceBelow (s .job) (s .committed) (accessAt (s .job j) place .cell) j) 0
-
--- The jobs that it looks past.
-abbrev pub bypassPlace : Snapshot → ℕ → ℕ → ℕ → Bool
-bypassPlace s j i place =
-    inUse (s .job j) place && bypassAt (s .job) (s .committed) (accessAt (s .job j) place .cell) (sourceNow s j place) i
+sourceNow s j place = sourceOf (s .job) (s .committed) j place
 
 abbrev pub bypassedNow : Snapshot → ℕ → ℕ → Bool
-bypassedNow s j i = ltb i j && anyBelow 4 (bypassPlace s j i)
+bypassedNow s j i = bypasses (s .job) (s .committed) j i
 
 -- "A guess has fallen if a job it looked past is settled with mark 1, or a guess it took from has fallen or been thrown
 -- away." Fallen is `invalid` here. Guesses take from earlier jobs only, so the jobs are judged in their order:

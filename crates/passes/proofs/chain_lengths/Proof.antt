@@ -43,10 +43,12 @@ add-length c =
     let s = c .before .before .before .before .before .before .before in
     let long : length (s .args .t1) ≡ 128 = search needs in
     let e : l .k ≡ suc (l .k - 1) = omega arith in
-    omega
-    (arith, c .met-by .ensures .0,
-    chain-short (s .args .t1) (s .args .job-count) (l .k - 1) (l .lengths) (l .for-reader) (l .for-writer) long (omega arith)
-    (c .met-by .ensures .1) (rw e at (l .inv .1)))
+    omega (
+      arith,
+      c .met-by .ensures .0,
+      chain-short (s .args .t1) (s .args .job-count) (l .k - 1) (l .lengths) (l .for-reader) (l .for-writer) long (omega arith)
+          (c .met-by .ensures .1) (rw e at (l .inv .1)),
+    )
 
 array-write-lengths : tie.Need-array-write-lengths Inv-loop μ-loop
 array-write-lengths c = omega arith
@@ -66,11 +68,12 @@ loop-again c =
     let l = m .before .before .before .before .before .loop in
     let s = m .before .before .before .before .before .before .before in
     let long : length (s .args .t1) ≡ 128 = search needs in
-    let e : l .k ≡ suc (l .k - 1) = omega arith in
-    (omega arith,
-    rw (c .note2 .ensures, c .before .before .note .ensures)
-    (chain-step (s .args .t1) (s .args .job-count) (l .k - 1) (l .lengths) (l .for-reader) (l .for-writer) long (omega arith)
-    (m .met-by .ensures .1) (rw e at (l .inv .1)) (m .met-by .result + 1) (add-one _ ∙ ap suc (m .met-by .ensures .0))))
+    let e : l .k ≡ suc (l .k - 1) = omega arith in (
+      omega arith,
+      rw (c .note2 .ensures, c .before .before .note .ensures)
+          (chain-step (s .args .t1) (s .args .job-count) (l .k - 1) (l .lengths) (l .for-reader) (l .for-writer) long (omega arith)
+          (m .met-by .ensures .1) (rw e at (l .inv .1)) (m .met-by .result + 1) (add-one _ ∙ ap suc (m .met-by .ensures .0))),
+    )
 
 -- all are
 returns : tie.Need-returns Inv-loop μ-loop

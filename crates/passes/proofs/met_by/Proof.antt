@@ -35,10 +35,11 @@ returns c =
     let third = c .before .before .before in
     let second = third .before in
     let first = second .before in
-    let zeroth = first .before in
-    (rw (c .larger3 .ensures, c .before .larger2 .ensures, c .before .before .larger .ensures, third .met-at4 .ensures .0, second .met-at3 .ensures .0, first .met-at2 .ensures .0, zeroth .met-at .ensures .0)
-    (max-four _),
-    each-of-four _ (zeroth .met-at .ensures .1) (first .met-at2 .ensures .1) (second .met-at3 .ensures .1) (third .met-at4 .ensures .1))
+    let zeroth = first .before in (
+      rw (c .larger3 .ensures, c .before .larger2 .ensures, c .before .before .larger .ensures, third .met-at4 .ensures .0, second .met-at3 .ensures .0, first .met-at2 .ensures .0, zeroth .met-at .ensures .0)
+          (max-four _),
+      each-of-four _ (zeroth .met-at .ensures .1) (first .met-at2 .ensures .1) (second .met-at3 .ensures .1) (third .met-at4 .ensures .1),
+    )
 
 pub met-by-spec : {M : Type 1} → statement M
 met-by-spec =

@@ -56,11 +56,12 @@ loop-again c =
     let o = c .before .before .before .before in
     let m = o .before in
     let l = m .before .before .before .before .before .loop in
-    let s = m .before .before .before .before .before .before .before in
-    (omega arith,
-    rw (c .note2 .ensures, c .before .before .note .ensures)
-    (ready-step (s .args .t1) (s .args .t2) (l .j) (l .flags) (l .for-reader) (l .for-writer) (omega arith)
-    (m .met-by .ensures .1) (l .inv .1) (m .met-by .result) (o .open-flag .result) (m .met-by .ensures .0) (o .open-flag .ensures)))
+    let s = m .before .before .before .before .before .before .before in (
+      omega arith,
+      rw (c .note2 .ensures, c .before .before .note .ensures)
+          (ready-step (s .args .t1) (s .args .t2) (l .j) (l .flags) (l .for-reader) (l .for-writer) (omega arith)
+          (m .met-by .ensures .1) (l .inv .1) (m .met-by .result) (o .open-flag .result) (m .met-by .ensures .0) (o .open-flag .ensures)),
+    )
 
 -- all are
 returns : tie.Need-returns Inv-loop μ-loop

@@ -1,0 +1,5 @@
+pub mod Record
+pub mod Form
+pub mod Opening
+pub mod Steps
+pub mod Perform

@@ -1,0 +1,43 @@
+-- The engine's record, and the snapshot that the rules read of it.
+use Prim.Native.Nat.{ℕ}
+use mathlib.Core.Bool.{Bool, not, _&&_}
+use mathlib.Core.List.{List, []}
+use lib.Dec.{eqb}
+use lib.IntN.{pos}
+use lib.ListN.{getD, replicate}
+use Rattle.dependence.specs.Job.{jobAt}
+use Rattle.dependence.specs.Ready.{isCommitted}
+use Rattle.jobset.specs.JobSet.{emptySet, hasJob}
+use Rattle.rules.specs.Snapshot.{Snapshot}
+use Rattle.engine.specs.declared.Run.{Run}
+use Rattle.engine.specs.declared.Batch.{Batch}
+
+-- What stands in a place that holds no run, and the run of a job that has none yet.
+abbrev pub noRun : Run
+noRun = record { handed = []; reported = []; wrote = 0; sources = []; bypassed = emptySet }
+
+abbrev pub blankRun : Run
+blankRun =
+    record { handed = replicate 4 (pos 0); reported = replicate 4 (pos 0); wrote = 0; sources = replicate 4 0; bypassed = emptySet }
+
+abbrev pub runAt : Batch → ℕ → Run
+runAt b j = getD (b .runs) j noRun
+
+abbrev pub committedAt : Batch → ℕ → Bool
+committedAt b j = isCommitted (getD (b .committed) j 0)
+
+abbrev pub snapshotOf : Batch → Snapshot
+snapshotOf b =
+    record {
+      cellCount = b .«cell_count»;
+      jobCount = b .«job_count»;
+      sealed = not (eqb (b .sealed) 0);
+      speculating = not (eqb (b .speculating) 0);
+      job = λ j. jobAt (b .jobs) j;
+      committed = λ j. committedAt b j;
+      wrote = λ j. committedAt b j && eqb (runAt b j .wrote) 1;
+      running = λ j. not (eqb (getD (b .running) j 0) 0);
+      phase = λ j. getD (b .phase) j 0;
+      bypassed = λ j i. hasJob (runAt b j .bypassed) i;
+      source = λ j place. getD (runAt b j .sources) place 0;
+    }

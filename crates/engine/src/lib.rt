@@ -1,0 +1,47 @@
+//! The batch engine: a record that goes in by value and comes back with each answer.
+
+use dependence::Job;
+use jobset::JobSet;
+
+/// A run of a job: the values handed out and the report on it. Of a speculative run also where its values came from:
+/// for each place one more than the number of the job it was forwarded from, 0 for the cell itself, and the jobs bypassed.
+pub struct Run {
+    pub handed: [i32; 4],
+    pub reported: [i32; 4],
+    pub wrote: u8,
+    pub sources: [u8; 4],
+    pub bypassed: JobSet,
+}
+
+/// A batch. The first `cell_count` cells and the first `job_count` places of each column are in use.
+/// A job has one run at a time: starting its own run takes the place of its speculative one.
+pub struct Batch {
+    pub cell_count: u8,
+    pub job_count: u8,
+    /// 1 once the list of jobs is sealed.
+    pub sealed: u8,
+    /// 1 if speculative runs may be started.
+    pub speculating: u8,
+    pub cells: [i32; 64],
+    pub jobs: [Job; 128],
+    pub runs: [Run; 128],
+    /// How the job was committed: 0 not yet, 1 by its own run, 2 by its speculative run.
+    pub committed: [u8; 128],
+    /// 1 while the job's own run is out.
+    pub running: [u8; 128],
+    /// The job's speculative run: 0 never started, 1 out, 2 with a stored report, 3 discarded.
+    pub phase: [u8; 128],
+}
+
+/// What a call answers that hands nothing out: 0 or the number of its refusal, and the batch.
+pub struct Answer {
+    pub refusal: u8,
+    pub batch: Batch,
+}
+
+/// What a start answers: the values handed to the run too, 0 each where it is refused.
+pub struct Started {
+    pub refusal: u8,
+    pub handed: [i32; 4],
+    pub batch: Batch,
+}

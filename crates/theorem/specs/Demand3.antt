@@ -1,0 +1,60 @@
+-- Demand 3, stated. (Its proof is in proofs/.)
+use Prim.Native.Nat.{ℕ, _<_, _≤_}
+use mathlib.Core.Bool.{Bool, true, false, cond}
+use mathlib.Core.List.{List}
+use mathlib.Core.Option.{Option, none, some}
+use mathlib.Core.Path.{_≡_}
+use lib.IntN.{ℤ}
+use lib.ListN.{length}
+use Rattle.rules.specs.Call.{Call, startOwn, startSpeculation, reportOwn, reportSpeculation, commit}
+use Rattle.rules.specs.Refusals.{refusalOf}
+use Rattle.rules.specs.Values.{valueAt, wroteRefused}
+use Rattle.engine.specs.declared.Batch.{Batch}
+use Rattle.engine.specs.declared.Started.{Started}
+use Rattle.engine.specs.Record.{runAt, committedAt}
+use Rattle.engine.specs.Opening.{opened}
+use Rattle.engine.specs.Perform.{perform}
+use Rattle.theorem.specs.Ledger.{Ledger, Entry, Counted, emptyLedger, snapshotOfLedger, isSome}
+use Rattle.theorem.specs.Replay.{replay, leftFor}
+use Rattle.theorem.specs.Trace.{batchAfter, eventsOf, ledgerAfter}
+
+-- "Whether document 01 allows a call is judged from the ledger and the calls before it, never from the batch record."
+abbrev pub judged : Ledger → Call → ℕ
+judged l call = refusalOf (snapshotOfLedger l) call
+
+-- A step on job j, with a well-formed report where one is due: "A report is well formed if 16 does not apply to it."
+pub data WellFormedStep (l : Ledger) : Call → Type 0 where
+  own-start : {j : ℕ} → WellFormedStep l (startOwn j)
+  speculation-start : {j : ℕ} → WellFormedStep l (startSpeculation j)
+  own-report : {j : ℕ} {values : List ℤ} {wrote : ℕ} → wroteRefused (l .job j) wrote ≡ false → WellFormedStep l (reportOwn j values wrote)
+  speculation-report : {j : ℕ} {values : List ℤ} {wrote : ℕ} → wroteRefused (l .job j) wrote ≡ false
+      → WellFormedStep l (reportSpeculation j values wrote)
+  commit-step : {j : ℕ} → WellFormedStep l (commit j)
+
+pub record Accepted (b : Batch) (l : Ledger) : Type 0 where
+  pub call : Call
+  pub step : WellFormedStep l call
+  pub allowed : perform b call .refusal ≡ 0
+
+-- What is claimed of a batch and the ledger of the calls that led to it.
+pub record Demand3 (b : Batch) (l : Ledger) : Type 0 where
+  -- each call is accepted exactly where document 01 allows it, and refused with its number
+  pub exact : (call : Call) → perform b call .refusal ≡ judged l call
+  -- no job has had more than four accepted steps
+  pub four-steps : (j : ℕ) → l .entry j .steps ≤ 4
+  -- while a job of a sealed batch is unsettled, some step is accepted
+  pub progress : isSome (l .switch) ≡ true → (j : ℕ) → j < l .jobCount → l .entry j .counted ≡ none → Accepted b l
+  -- the cells are those of the insertion-order run of what is counted so far
+  pub cells : (x : ℕ) → x < length (l .heights) → valueAt (b .cells) x ≡ valueAt (replay l (l .jobCount)) x
+  -- each counted run was handed what the jobs before it left
+  pub handed : (j : ℕ) (c : Counted) → l .entry j .counted ≡ some c → c .handed ≡ leftFor l j
+  -- a job is settled where it has a counted report, with that report's mark
+  pub settled : (j : ℕ) → committedAt b j ≡ isSome (l .entry j .counted)
+  pub marks : (j : ℕ) (c : Counted) → l .entry j .counted ≡ some c → runAt b j .wrote ≡ c .report .wrote
+
+-- The claim for every accepted opening and every list of calls.
+abbrev pub Demand3Statement : Type 0
+Demand3Statement =
+    (heights : List ℤ) (calls : List Call) → opened heights .refusal ≡ 0
+    → Demand3 (batchAfter (opened heights .batch) calls)
+    (ledgerAfter (emptyLedger heights) (eventsOf (opened heights .batch) calls))
