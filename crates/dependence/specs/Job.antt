@@ -6,7 +6,7 @@ use mathlib.Core.Bool.{Bool, not, _&&_}
 use mathlib.Core.List.{List, []}
 use lib.Dec.{eqb, leb}
 use lib.IntN.{pos}
-use lib.ListN.{getD}
+use lib.ListN.{getD, replicate}
 use Rattle.laws.specs.Search.{anyBelow}
 use Rattle.dependence.specs.declared.Access.{Access}
 use Rattle.dependence.specs.declared.Job.{Job}
@@ -21,6 +21,10 @@ noAccess = record { cell = 0; mode = 0 }
 
 abbrev pub noJob : Job
 noJob = record { kind = 0; parameter = pos 0; arity = 0; accesses = [] }
+
+-- What a place for a job holds that was never filled.
+abbrev pub blankJob : Job
+blankJob = record { kind = 0; parameter = pos 0; arity = 0; accesses = replicate 4 noAccess }
 
 -- The access at a place of the job, and the job at a place of the list.
 abbrev pub accessAt : Job → ℕ → Access

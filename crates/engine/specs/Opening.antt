@@ -6,18 +6,13 @@ use lib.Dec.{eqb, ltb}
 use lib.IntN.{ℤ, pos}
 use lib.ListN.{length, set, drop, replicate}
 use Rattle.laws.specs.Refusal.{Refusal, firstOf}
-use Rattle.dependence.specs.declared.Access.{Access}
 use Rattle.dependence.specs.declared.Job.{Job}
+use Rattle.dependence.specs.Job.{blankJob}
 use Rattle.rules.specs.Refusals.{insertTests, sealTests}
 use Rattle.engine.specs.declared.Batch.{Batch}
 use Rattle.engine.specs.declared.Answer.{Answer}
 use Rattle.engine.specs.Record.{blankRun, snapshotOf}
 use Rattle.engine.specs.Form.{inForm}
-
--- What a blank place of the job column holds.
-abbrev pub blankJob : Job
-blankJob =
-    record { kind = 0; parameter = pos 0; arity = 0; accesses = replicate 4 (record { cell = 0; mode = 0 }) }
 
 -- A batch with the cells, unsealed and without jobs.
 abbrev pub fresh : ℕ → List ℤ → Batch

@@ -50,3 +50,10 @@ pub accepted : (l : List Refusal) → Passed l → firstOf l ≡ 0
 unfolding firstOf
 accepted [] p = refl
 accepted (when t k ∷ r) p = rw (p .0) (accepted r (p .1))
+
+-- Every list has such a number, however it is computed.
+pub first-of : (l : List Refusal) → First l (firstOf l)
+unfolding firstOf
+first-of [] = none
+first-of (when true k ∷ r) = hit refl
+first-of (when false k ∷ r) = skip refl (first-of r)

@@ -10,7 +10,7 @@ use lib.Dec.{eqb}
 use lib.IntN.{ℤ}
 use lib.ListN.{length}
 use Rattle.dependence.specs.declared.Job.{Job}
-use Rattle.dependence.specs.Job.{noJob}
+use Rattle.dependence.specs.Job.{blankJob}
 use Rattle.rules.specs.Snapshot.{Snapshot}
 use Rattle.rules.specs.Speculation.{sourceNow, bypassedNow}
 use Rattle.rules.specs.Call.{Call, insert, seal, startOwn, startSpeculation, reportOwn, reportSpeculation, commit}
@@ -58,7 +58,7 @@ pub record Ledger : Type 0 where
 
 abbrev pub emptyLedger : List ℤ → Ledger
 emptyLedger heights =
-    record { heights = heights; jobCount = 0; job = λ j. noJob; switch = none; entry = λ j. noEntry }
+    record { heights = heights; jobCount = 0; job = λ j. blankJob; switch = none; entry = λ j. noEntry }
 
 -- What the rules read of the ledger.
 
