@@ -5,3 +5,5 @@ pub mod Opening
 pub mod OpeningLaws
 pub mod Steps
 pub mod Perform
+pub mod Speculation
+pub mod InvalidPass

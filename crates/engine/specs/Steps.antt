@@ -5,11 +5,11 @@ use mathlib.Core.List.{List, [], _∷_}
 use lib.Dec.{eqb}
 use lib.IntN.{ℤ, pos}
 use lib.ListN.{getD, set, replicate}
-use Rattle.laws.specs.Fold.{foldBelow}
 use Rattle.dependence.specs.declared.Job.{Job}
 use Rattle.dependence.specs.Job.{inUse, accessAt, jobAt}
 use Rattle.jobset.specs.declared.JobSet.{JobSet}
-use Rattle.jobset.specs.JobSet.{emptySet, withJob}
+use Rattle.jobset.specs.JobSet.{emptySet}
+use Rattle.walk.specs.Sources.{setOf}
 use Rattle.rules.specs.Values.{four, valueAt, valueFor, presentAt, presentValues, storedValues, writeBack}
 use Rattle.rules.specs.Speculation.{sourceNow, bypassedNow}
 use Rattle.rules.specs.Refusals.{startOwnTests, startSpeculationTests, reportOwnTests, reportSpeculationTests, commitTests}
@@ -75,10 +75,6 @@ speculativeAt b j place =
 
 abbrev pub speculativeValues : Batch → ℕ → List ℤ
 speculativeValues b j = four (speculativeAt b j)
-
--- The set of the numbers below n that satisfy p.
-unfoldable pub setOf : ℕ → (ℕ → Bool) → JobSet
-setOf n p = foldBelow n (λ i set. cond (p i) (withJob set i) set) emptySet
 
 abbrev pub sourcesNow : Batch → ℕ → List ℕ
 sourcesNow b j =

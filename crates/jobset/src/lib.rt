@@ -1,7 +1,7 @@
 //! Sets of jobs, for job numbers below 128: small enough to copy, and tested without a loop.
 
 ghost use mathlib.Core.Path.{_≡_};
-ghost use Rattle.jobset.specs.JobSet.{emptySet, withJob, hasJob, reachesTo};
+ghost use Rattle.jobset.specs.JobSet.{emptySet, withJob, hasJob, reachesTo, meetsWith};
 
 /// A set of job numbers below 128. Job `j` is bit `j` of the low word, or bit `j - 64` of the high word.
 pub struct JobSet {
@@ -63,5 +63,15 @@ impl JobSet {
             return (self.high >> (j - 64)) != 0;
         }
         false
+    }
+
+    /// Whether a job is in both sets.
+    pub fn meets(self, other: JobSet) -> bool
+        ensures { λ r. ⌜ r ≡ meetsWith self other ⌝ }
+    {
+        if (self.low & other.low) != 0 {
+            return true;
+        }
+        (self.high & other.high) != 0
     }
 }

@@ -2,3 +2,12 @@ pub mod Ledger
 pub mod Replay
 pub mod Trace
 pub mod Demand3
+pub mod SameRefusal
+pub mod Faithful
+pub mod Held
+pub mod Kept
+pub mod Update
+pub mod Agreement
+pub mod StepAgreement
+pub mod After
+pub mod Promises

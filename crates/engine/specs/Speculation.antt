@@ -1,0 +1,39 @@
+-- The tests on speculative runs as the code makes them, on the record's columns, and that they are the rules'.
+use Prim.Native.Nat.{ℕ, suc, _+_, _-_, _<_, _≤_}
+use native.Mathlib.Omega.{arith}
+use native.Mathlib.Numerals.{add-one}
+use mathlib.Core.Bool.{Bool, true, false, cond, not, _&&_, _||_}
+use mathlib.Core.List.{List, [], _∷_, _++_}
+use mathlib.Core.Path.{_≡_, refl, sym, ap, _∙_}
+use lib.Dec.{eqb, ltb}
+use lib.IntN.{ℤ}
+use lib.ListN.{length, getD, set, replicate}
+use Rattle.laws.specs.Search.{anyBelow}
+use Rattle.laws.specs.Fold.{upTo, column}
+use Rattle.dependence.specs.declared.Job.{Job}
+use Rattle.dependence.specs.Job.{accessAt, jobAt}
+use Rattle.dependence.specs.Ready.{isCommitted}
+use Rattle.jobset.specs.declared.JobSet.{JobSet}
+use Rattle.jobset.specs.JobSet.{hasJob, withJob, meetsWith}
+use Rattle.rules.specs.Values.{valueAt, valueFor}
+use Rattle.rules.specs.Snapshot.{isStored, isDiscarded, isLive}
+use Rattle.engine.specs.declared.Run.{Run}
+use Rattle.engine.specs.declared.Batch.{Batch}
+use Rattle.engine.specs.Record.{runAt, snapshotOf}
+
+-- Invalid runs.
+
+abbrev pub lostAt : List ℕ → List ℕ → List Bool → ℕ → Bool
+lostAt sources phases invalid place =
+    cond (eqb (getD sources place 0) 0) false
+    (isDiscarded (getD phases (getD sources place 0 - 1) 0) || getD invalid (getD sources place 0 - 1) false)
+
+abbrev pub lostAny : List ℕ → List ℕ → List Bool → Bool
+lostAny sources phases invalid = anyBelow 4 (lostAt sources phases invalid)
+
+abbrev pub invalidRun : Run → ℕ → JobSet → List ℕ → List Bool → Bool
+invalidRun run phase wrote phases invalid =
+    isLive phase && (meetsWith (run .bypassed) wrote || lostAny (run .sources) phases invalid)
+
+abbrev pub writerNoted : JobSet → ℕ → ℕ → ℕ → JobSet
+writerNoted wrote j committed mark = cond (isCommitted committed && eqb mark 1) (withJob wrote j) wrote

@@ -1,0 +1,176 @@
+-- The five steps keep the invariant. Steps 0, 1 and 3 change an open job, steps 2 and 4 commit one.
+use Prim.Native.Nat.{ℕ, _<_}
+use mathlib.Core.Path.{_≡_, refl, _∙_}
+use mathlib.Core.Logic.{inl, inr}
+use mathlib.Core.Option.{none}
+use mathlib.Core.Bool.{Bool, true}
+use lib.IntN.{ℤ}
+use Rattle.model.specs.Cases.{none-some}
+use Rattle.model.specs.Update.{update-same}
+use Rattle.model.specs.State.{names, Progress, idle, running, committed, isCommitted}
+use Rattle.model.specs.State.{Origin, Speculation, never, out, stored, discarded, originOf}
+use Rattle.model.specs.State.{State, Open, Ready, Right, Invalid, Source, SpeculationOk, Invariant}
+use Rattle.model.specs.StateLaws.{idle-open, running-open}
+use Rattle.model.specs.InvariantLaws.{present-is-before, valid-is-right}
+use Rattle.model.specs.Commit.{commitState, commit-state-keeps}
+use Rattle.model.specs.Change.{Grow, kept, dropped, begun, told, changeState, change-state-keeps}
+use Rattle.model.specs.Change.{still-source, old-sources}
+use Rattle.model.specs.Walk.{Gathered, gathered-source}
+
+-- "Starting a job's own run throws its fallen guess away": what is left of its guess.
+unfoldable pub discard : Speculation → Speculation
+discard never = never
+discard (out origin) = discarded
+discard (stored origin reported mark) = discarded
+discard discarded = discarded
+
+-- It is a way in which a guess may change,
+discard-grows : (u : Speculation) → Grow u (discard u)
+unfolding discard
+discard-grows never = kept
+discard-grows (out origin) = dropped
+discard-grows (stored origin reported mark) = dropped
+discard-grows discarded = dropped
+
+-- and goes with any state of the job.
+discard-ok : (p : Progress) (u : Speculation) → SpeculationOk p (discard u)
+unfolding discard
+discard-ok p never = tt
+discard-ok p (out origin) = tt
+discard-ok p (stored origin reported mark) = tt
+discard-ok p discarded = tt
+
+-- After an own start there is no guess.
+pub discard-origin : (u : Speculation) → originOf (discard u) ≡ none
+unfolding discard originOf
+discard-origin never = refl
+discard-origin (out origin) = refl
+discard-origin (stored origin reported mark) = refl
+discard-origin discarded = refl
+
+-- "0 start own: hands out present cell values."
+abbrev pub ownStart : State → ℕ → (ℕ → ℤ) → State
+ownStart s j handed = changeState s j (running handed) (discard (s .speculation j))
+
+-- The job is ready, and the present cells hold what the jobs before it left.
+pub own-start-keeps : (s : State) (j : ℕ) (handed : ℕ → ℤ)
+    → Invariant s
+    → j < s .jobCount
+    → s .progress j ≡ idle
+    → Ready s j
+    → ((x : ℕ) → names (s .uses j x) ≡ true → handed x ≡ s .cells x)
+    → Invariant (ownStart s j handed)
+unfolding isCommitted
+own-start-keeps s j handed inv l e ready values =
+    change-state-keeps s j (running handed) (discard (s .speculation j))
+    inv (idle-open e) refl (discard-grows (s .speculation j))
+    (ready, λ x n. values x n ∙ present-is-before s inv j x l (idle-open e) n)
+    (discard-ok _ (s .speculation j))
+    (λ origin d. none-some (discard-origin (s .speculation j)) d)
+
+-- "1 start guess: once per job."
+abbrev pub speculationStart : State → ℕ → Origin → State
+speculationStart s j origin = changeState s j idle (out origin)
+
+-- The walk back gives every value its source.
+pub speculation-start-keeps : (s : State) (j : ℕ) (origin : Origin)
+    → Invariant s
+    → j < s .jobCount
+    → s .progress j ≡ idle
+    → s .speculation j ≡ never
+    → Gathered s j origin
+    → Invariant (speculationStart s j origin)
+unfolding isCommitted originOf
+speculation-start-keeps s j origin inv l e g gathered =
+    change-state-keeps s j idle (out origin) inv o refl grow tt refl
+    (λ origin' d valid x n. let same : origin ≡ origin' = cc in rw (← same) (new valid x n))
+  where
+    o : Open s j
+    o = idle-open e
+
+    grow : Grow (s .speculation j) (out origin)
+    grow = rw g begun
+
+    new : ¬ Invalid (speculationStart s j origin) j
+        → (x : ℕ) → names (s .uses j x) ≡ true → Source (speculationStart s j origin) j x origin
+    new valid x n =
+        still-source s j idle (out origin) inv o refl grow j x origin
+        (rw (update-same (s .speculation) j (out origin) j refl))
+        valid
+        (gathered-source s j origin inv l o gathered x n)
+
+-- "2 report own: writes its cells and settles the job."
+abbrev pub ownReport : State → ℕ → (ℕ → ℤ) → (ℕ → ℤ) → Bool → State
+ownReport s j handed reported mark = commitState s j handed reported mark
+
+-- The own run that is out was handed the right values, and its job is ready.
+pub own-report-keeps : (s : State) (j : ℕ) (handed reported : ℕ → ℤ) (mark : Bool)
+    → Invariant s
+    → j < s .jobCount
+    → s .progress j ≡ running handed
+    → Invariant (ownReport s j handed reported mark)
+own-report-keeps s j handed reported mark inv l e =
+    commit-state-keeps s j handed reported mark inv l (running-open e) (run .0) (run .1)
+    (no-guess (s .speculation j) (rw e at (inv .speculations j)))
+  where
+    run : Ready s j × Right s j handed
+    run = rw e at (inv .runs j)
+
+    -- while an own run is out there is no guess
+    no-guess : (u : Speculation) → SpeculationOk (running handed) u → SpeculationOk (committed handed reported mark) u
+    no-guess never ok = tt
+    no-guess (out origin) ok = cc
+    no-guess (stored origin r m) (inl ok) = inr (cc)
+    no-guess (stored origin r m) (inr ok) = inr (cc)
+    no-guess discarded ok = tt
+
+-- "3 report guess: stores the report; no cell changes."
+abbrev pub speculationReport : State → ℕ → Origin → (ℕ → ℤ) → Bool → State
+speculationReport s j origin reported mark = changeState s j idle (stored origin reported mark)
+
+-- The guess keeps its origin.
+pub speculation-report-keeps : (s : State) (j : ℕ) (origin : Origin) (reported : ℕ → ℤ) (mark : Bool)
+    → Invariant s
+    → s .speculation j ≡ out origin
+    → Invariant (speculationReport s j origin reported mark)
+unfolding isCommitted originOf
+speculation-report-keeps s j origin reported mark inv g =
+    change-state-keeps s j idle (stored origin reported mark) inv o refl grow tt (inl refl)
+    (λ origin' d valid x n. let same : origin ≡ origin' = cc in rw (← same) (old valid x n))
+  where
+    e : s .progress j ≡ idle
+    e = rw g at (inv .speculations j)
+
+    o : Open s j
+    o = idle-open e
+
+    grow : Grow (s .speculation j) (stored origin reported mark)
+    grow = rw g told
+
+    old : ¬ Invalid (speculationReport s j origin reported mark) j
+        → (x : ℕ) → names (s .uses j x) ≡ true → Source (speculationReport s j origin reported mark) j x origin
+    old valid x n =
+        old-sources s j idle (stored origin reported mark) inv o refl grow j origin
+        (rw g)
+        (rw (update-same (s .speculation) j (stored origin reported mark) j refl))
+        (rw (update-same (s .progress) j idle j refl))
+        valid x n
+
+-- "4 settle: writes the stored report into the cells; the job is settled by its guess with that mark."
+abbrev pub speculationCommit : State → ℕ → Origin → (ℕ → ℤ) → Bool → State
+speculationCommit s j origin reported mark = commitState s j (origin .handed) reported mark
+
+-- The guess stands, so it was handed the right values.
+pub commit-keeps : (s : State) (j : ℕ) (origin : Origin) (reported : ℕ → ℤ) (mark : Bool)
+    → Invariant s
+    → j < s .jobCount
+    → s .progress j ≡ idle
+    → s .speculation j ≡ stored origin reported mark
+    → Ready s j
+    → ¬ Invalid s j
+    → Invariant (speculationCommit s j origin reported mark)
+unfolding originOf
+commit-keeps s j origin reported mark inv l e g ready valid =
+    commit-state-keeps s j (origin .handed) reported mark inv l (idle-open e) ready
+    (valid-is-right s inv j origin (rw g) (idle-open e) ready valid)
+    (rw g (inr refl))

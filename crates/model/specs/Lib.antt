@@ -1,0 +1,13 @@
+pub mod Cases
+pub mod Update
+pub mod Column
+pub mod State
+pub mod StateLaws
+pub mod InvariantLaws
+pub mod Commit
+pub mod Change
+pub mod Walk
+pub mod Actions
+pub mod Insert
+pub mod Opening
+pub mod Validity

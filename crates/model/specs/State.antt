@@ -1,0 +1,215 @@
+-- A batch as the theorem sees it, and what holds of it at every moment. Everything is a function of the job's number
+-- or the cell's number: a value handed or reported is looked up by cell, not by its place among a job's accesses, and
+-- only at the cells that the job names does it mean anything.
+use Prim.Native.Nat.{ℕ, suc, _≤_, _<_}
+use mathlib.Core.Path.{_≡_}
+use mathlib.Core.Logic.{_⊎_}
+use mathlib.Core.Option.{Option, none, some}
+use mathlib.Core.Bool.{Bool, true, false}
+use lib.IntN.{ℤ}
+use Rattle.model.specs.Column.{after}
+
+-- What a job does with a cell: it has no access to it, or one of mode 0 read, 1 write or 2 maybe-write.
+pub data Use : Type 0 where
+  absent reads writes maybe : Use
+
+-- The cell stands in the job. "A writer may also use the old value, so all its cells are handed to it."
+unfoldable pub names : Use → Bool
+names absent = false
+names reads = true
+names writes = true
+names maybe = true
+
+-- The access to the cell is not a read.
+unfoldable pub mayWrite : Use → Bool
+mayWrite absent = false
+mayWrite reads = false
+mayWrite writes = true
+mayWrite maybe = true
+
+-- The cell was written by a report with this mark. "A job's write cells get the values of its counted report, its
+-- maybe-write cells too if the mark is 1; all other cells stay."
+unfoldable pub wroteCell : Use → Bool → Bool
+wroteCell absent mark = false
+wroteCell reads mark = false
+wroteCell writes mark = true
+wroteCell maybe mark = mark
+
+-- "Two jobs conflict if they share a cell and at least one access to it is not a read": the two uses of one cell.
+unfoldable pub usesConflict : Use → Use → Bool
+usesConflict absent later = false
+usesConflict reads later = mayWrite later
+usesConflict writes later = names later
+usesConflict maybe later = names later
+
+-- How far a job has come, its guess apart: nothing counts yet, its own run is out with the values handed, or it is
+-- settled. A settled job has the values handed to its counted run, the values of its counted report and the mark.
+pub data Progress : Type 0 where
+  idle : Progress
+  running : (ℕ → ℤ) → Progress
+  committed : (ℕ → ℤ) → (ℕ → ℤ) → Bool → Progress
+
+-- The job is settled.
+unfoldable pub isCommitted : Progress → Bool
+isCommitted idle = false
+isCommitted (running handed) = false
+isCommitted (committed handed reported mark) = true
+
+-- The job is settled with mark 1.
+unfoldable pub isMarked : Progress → Bool
+isMarked idle = false
+isMarked (running handed) = false
+isMarked (committed handed reported mark) = mark
+
+-- A value, where a test allows it.
+abbrev pub given : Bool → ℤ → Option ℤ
+given true value = some value
+given false value = none
+
+-- The effect of a job's turn on a cell. "A job without a counted report is passed over."
+unfoldable pub effect : Use → ℕ → Progress → Option ℤ
+effect mode x idle = none
+effect mode x (running handed) = none
+effect mode x (committed handed reported mark) = given (wroteCell mode mark) (reported x)
+
+-- Where a guess comes from: the values handed to it, the jobs it looked past, and for each cell the job from whose
+-- guess the value was taken, or none for the present cell.
+pub record Origin : Type 0 where
+  pub handed : ℕ → ℤ
+  pub bypassed : ℕ → Bool
+  pub source : ℕ → Option ℕ
+
+-- A job's guess: never started, out, with a stored report (its values and its mark), or thrown away. The guess by
+-- which a job was settled stays stored.
+pub data Speculation : Type 0 where
+  never : Speculation
+  out : Origin → Speculation
+  stored : Origin → (ℕ → ℤ) → Bool → Speculation
+  discarded : Speculation
+
+-- Where the guess comes from, while there is one.
+unfoldable pub originOf : Speculation → Option Origin
+originOf never = none
+originOf (out origin) = some origin
+originOf (stored origin reported mark) = some origin
+originOf discarded = none
+
+-- The value that the guess reported at a cell.
+unfoldable pub reportAt : Speculation → ℕ → Option ℤ
+reportAt never x = none
+reportAt (out origin) x = none
+reportAt (stored origin reported mark) x = some (reported x)
+reportAt discarded x = none
+
+-- The batch: how many cells and jobs there are; what a job (first) does with a cell (second); the heights at the
+-- opening and now, by cell; and how far each job and its guess have come.
+pub record State : Type 0 where
+  pub cellCount : ℕ
+  pub jobCount : ℕ
+  pub uses : ℕ → ℕ → Use
+  pub heights : ℕ → ℤ
+  pub cells : ℕ → ℤ
+  pub progress : ℕ → Progress
+  pub speculation : ℕ → Speculation
+
+-- The effects of the jobs' turns on cell x, by job.
+unfoldable pub effects : State → ℕ → ℕ → Option ℤ
+effects s x i = effect (s .uses i x) x (s .progress i)
+
+-- The height of cell x before the turn of job k, in the insertion-order run of the counted reports.
+unfoldable pub before : State → ℕ → ℕ → ℤ
+before s k x = after (s .heights x) (effects s x) k
+
+-- Job i is settled.
+abbrev pub Committed : State → ℕ → Type 0
+Committed s i = isCommitted (s .progress i) ≡ true
+
+-- Job i is not settled.
+abbrev pub Open : State → ℕ → Type 0
+Open s i = isCommitted (s .progress i) ≡ false
+
+-- "A job is ready when each earlier conflicting job is settled."
+abbrev pub Ready : State → ℕ → Type 0
+Ready s j = (i x : ℕ) → i < j → usesConflict (s .uses i x) (s .uses j x) ≡ true → Committed s i
+
+-- Every settled job is ready: it was when it settled, and no job becomes unsettled.
+abbrev pub Orderly : State → Type 0
+Orderly s = (j : ℕ) → Committed s j → Ready s j
+
+-- These values, at the cells that job j names, are what the jobs before it left.
+abbrev pub Right : State → ℕ → (ℕ → ℤ) → Type 0
+Right s j handed = (x : ℕ) → names (s .uses j x) ≡ true → handed x ≡ before s j x
+
+-- "A guess has fallen if a job it looked past is settled with mark 1, or a guess it took from has fallen or been
+-- thrown away."
+pub data Invalid (s : State) : ℕ → Type 0 where
+  bypassed-wrote : {j i : ℕ} {origin : Origin}
+      → originOf (s .speculation j) ≡ some origin
+      → origin .bypassed i ≡ true
+      → isMarked (s .progress i) ≡ true
+      → Invalid s j
+  source-discarded : {j w x : ℕ} {origin : Origin}
+      → originOf (s .speculation j) ≡ some origin
+      → origin .source x ≡ some w
+      → s .speculation w ≡ discarded
+      → Invalid s j
+  source-invalid : {j w x : ℕ} {origin : Origin}
+      → originOf (s .speculation j) ≡ some origin
+      → origin .source x ≡ some w
+      → Invalid s w
+      → Invalid s j
+
+-- From job `first` on, each open job before j that may write cell x is a maybe-writer of it and was looked past. It
+-- is kept for each cell, since a job may surely write one cell and maybe-write another.
+abbrev pub Bypass : State → ℕ → ℕ → Origin → ℕ → Type 0
+Bypass s j x origin first =
+    (i : ℕ) → first ≤ i → i < j → mayWrite (s .uses i x) ≡ true → Open s i
+    → (s .uses i x ≡ maybe) × (origin .bypassed i ≡ true)
+
+-- Where the value that job j's guess was handed at cell x stands now. Forwarded: it is the stored report of an open
+-- writer w, and what may write between w and j was looked past. Present: it is what the jobs before j left, and what
+-- may still write before j was looked past. When w is settled by its guess, the first becomes the second.
+pub data Source (s : State) (j x : ℕ) (origin : Origin) : Type 0 where
+  forwarded : (w : ℕ)
+      → origin .source x ≡ some w
+      → w < j
+      → s .uses w x ≡ writes
+      → reportAt (s .speculation w) x ≡ some (origin .handed x)
+      → Open s w
+      → Bypass s j x origin (suc w)
+      → Source s j x origin
+  present : origin .handed x ≡ before s j x → Bypass s j x origin 0 → Source s j x origin
+
+-- What holds of a job's run: an own run that is out belongs to a ready job, and it, as every counted run, was handed
+-- what the jobs before left.
+abbrev pub RunOk : State → ℕ → Progress → Type 0
+RunOk s j idle = Unit {0}
+RunOk s j (running handed) = Ready s j × Right s j handed
+RunOk s j (committed handed reported mark) = Right s j handed
+
+-- How a job and its guess go together: while a guess is out nothing of the job counts; with a stored report the job
+-- is idle still, or settled by this guess and report.
+abbrev pub SpeculationOk : Progress → Speculation → Type 0
+SpeculationOk progress never = Unit {0}
+SpeculationOk progress (out origin) = progress ≡ idle
+SpeculationOk progress (stored origin reported mark) =
+    (progress ≡ idle) ⊎ (progress ≡ committed (origin .handed) reported mark)
+SpeculationOk progress discarded = Unit {0}
+
+-- What holds at every moment. The cells, and the values handed to a settled job's run, are what demand 3 compares;
+-- the rest carries them from step to step.
+pub record Invariant (s : State) : Type 0 where
+  -- the cells are the end of the insertion-order run
+  pub cells-ok : (x : ℕ) → s .cells x ≡ before s (s .jobCount) x
+  -- every settled job is ready
+  pub orderly : Orderly s
+  -- every run was handed the right values
+  pub runs : (j : ℕ) → RunOk s j (s .progress j)
+  -- every guess goes with its job
+  pub speculations : (j : ℕ) → SpeculationOk (s .progress j) (s .speculation j)
+  -- every value of an open job's guess has a source, unless the guess has fallen
+  pub sources : (j : ℕ) (origin : Origin)
+      → originOf (s .speculation j) ≡ some origin
+      → Open s j
+      → ¬ Invalid s j
+      → (x : ℕ) → names (s .uses j x) ≡ true → Source s j x origin
