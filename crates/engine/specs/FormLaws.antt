@@ -28,7 +28,8 @@ counts-in cells jobs sealed speculating e =
       few-cells = ltb-false 64 cells (or-left (ltb 64 cells) (ltb 128 jobs || (ltb 1 sealed || ltb 1 speculating)) tail₁);
       few-jobs = ltb-false 128 jobs (or-left (ltb 128 jobs) (ltb 1 sealed || ltb 1 speculating) tail₂);
       sealed-bit = ltb-false 1 sealed (or-left (ltb 1 sealed) (ltb 1 speculating) tail₃);
-      speculating-bit = ltb-false 1 speculating (or-right (ltb 1 sealed) (ltb 1 speculating) tail₃) }
+      speculating-bit = ltb-false 1 speculating (or-right (ltb 1 sealed) (ltb 1 speculating) tail₃);
+    }
 
 module _ (b : Batch) (form : inForm b ≡ true) where
   no-fault : (countsOut (b .«cell_count») (b .«job_count») (b .sealed) (b .speculating) || anyBelow (b .«job_count») (jobOut b)) ≡ false

@@ -34,8 +34,9 @@ pub record InvalidPass (b : Batch) (j : ℕ) (invalid : List Bool) (wrote : JobS
 
 pub invalid-start : (b : Batch) → InvalidPass b 0 (replicate 128 false) emptySet
 invalid-start b = record {
-    done = column-none 128 (isInvalid (snapshotOf b)) false;
-    writers = sym (set-none (snapshotOf b .wrote)) }
+  done = column-none 128 (isInvalid (snapshotOf b)) false;
+  writers = sym (set-none (snapshotOf b .wrote));
+}
 
 module _ (b : Batch) (j : ℕ) (invalid : List Bool) (wrote : JobSet) (low : j < 128) (pass : InvalidPass b j invalid wrote) where
   -- It bypassed a job that wrote: the two sets meet.
@@ -55,9 +56,11 @@ module _ (b : Batch) (j : ℕ) (invalid : List Bool) (wrote : JobSet) (low : j <
       any-same 4 (lostAt (runAt b j .sources) (b .phase) invalid)
       (λ place. sourceLost (snapshotOf b) (invalidBelow (snapshotOf b) j) (snapshotOf b .source j place))
       (λ place l.
-        rw
-        (pass .done, judged-list (snapshotOf b) j,
-        column-get 128 j (getD (runAt b j .sources) place 0 - 1) (isInvalid (snapshotOf b)) false (omega arith)))
+      rw (
+        pass .done,
+        judged-list (snapshotOf b) j,
+        column-get 128 j (getD (runAt b j .sources) place 0 - 1) (isInvalid (snapshotOf b)) false (omega arith),
+      ))
 
   -- So the code's test is the rule's.
   pub invalid-is : invalidRun (runAt b j) (getD (b .phase) j 0) wrote (b .phase) invalid ≡ isInvalid (snapshotOf b) j
@@ -70,5 +73,6 @@ module _ (b : Batch) (j : ℕ) (invalid : List Bool) (wrote : JobSet) (low : j <
       → noted ≡ writerNoted wrote j (getD (b .committed) j 0) (runAt b j .wrote)
       → InvalidPass b (j + 1) (set invalid j flag) noted
   invalid-step flag noted e f = record {
-      done = rw (e, invalid-is, pass .done) (column-more 128 j (isInvalid (snapshotOf b)) false low);
-      writers = rw (f, pass .writers) (sym (set-more j (snapshotOf b .wrote))) }
+    done = rw (e, invalid-is, pass .done) (column-more 128 j (isInvalid (snapshotOf b)) false low);
+    writers = rw (f, pass .writers) (sym (set-more j (snapshotOf b .wrote)));
+  }

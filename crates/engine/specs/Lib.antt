@@ -5,5 +5,8 @@ pub mod Opening
 pub mod OpeningLaws
 pub mod Steps
 pub mod Perform
+pub mod StepLaws
+pub mod SourceLimit
+pub mod SourceMissing
 pub mod Speculation
 pub mod InvalidPass

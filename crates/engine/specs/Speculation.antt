@@ -37,3 +37,19 @@ invalidRun run phase wrote phases invalid =
 
 abbrev pub writerNoted : JobSet → ℕ → ℕ → ℕ → JobSet
 writerNoted wrote j committed mark = cond (isCommitted committed && eqb mark 1) (withJob wrote j) wrote
+
+-- New runs.
+
+abbrev pub unusableAt : List ℕ → List ℕ → List Bool → ℕ → Bool
+unusableAt sources phases invalid place =
+    cond (eqb (getD sources place 0) 0) false
+    (not (isStored (getD phases (getD sources place 0 - 1) 0)) || getD invalid (getD sources place 0 - 1) false)
+
+abbrev pub unusableAny : List ℕ → List ℕ → List Bool → Bool
+unusableAny sources phases invalid = anyBelow 4 (unusableAt sources phases invalid)
+
+-- What a place is handed, given what is present there and the sources.
+abbrev pub forwardedAt : Batch → Job → List ℤ → List ℕ → ℕ → ℤ
+forwardedAt b job present sources place =
+    cond (eqb (getD sources place 0) 0) (valueAt present place)
+    (valueFor (jobAt (b .jobs) (getD sources place 0 - 1)) (runAt b (getD sources place 0 - 1) .reported) (accessAt job place .cell))

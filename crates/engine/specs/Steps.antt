@@ -12,7 +12,7 @@ use Rattle.jobset.specs.JobSet.{emptySet}
 use Rattle.walk.specs.Sources.{setOf}
 use Rattle.rules.specs.Values.{four, valueAt, valueFor, presentAt, presentValues, storedValues, writeBack}
 use Rattle.rules.specs.Speculation.{sourceNow, bypassedNow}
-use Rattle.rules.specs.Refusals.{startOwnTests, startSpeculationTests, reportOwnTests, reportSpeculationTests, commitTests}
+use Rattle.rules.specs.Refusals.{stepTests, startOwnTests, startSpeculationTests, reportOwnTests, reportSpeculationTests, commitTests}
 use Rattle.engine.specs.declared.Run.{Run}
 use Rattle.engine.specs.declared.Batch.{Batch}
 use Rattle.engine.specs.declared.Answer.{Answer}
@@ -110,14 +110,28 @@ start refusal handed before after =
       batch = cond (eqb refusal 0) after before;
     }
 
+-- What every step asks first: 32, 10 and 11.
+abbrev pub stepRefusal : Batch → ℕ → ℕ
+stepRefusal b j = refusalOn b (stepTests (snapshotOf b) j [])
+
 abbrev pub startOwnRefusal : Batch → ℕ → ℕ
 startOwnRefusal b j = refusalOn b (startOwnTests (snapshotOf b) j)
+
+-- The answer of an accepted start.
+abbrev pub accepted : List ℤ → Batch → Started
+accepted handed batch = record { refusal = 0; handed = handed; batch = batch }
+
+abbrev pub ownStarted : Batch → ℕ → Started
+ownStarted b j = accepted (ownValues b j) (withOwnStarted b j)
 
 unfoldable pub startedOwn : Batch → ℕ → Started
 startedOwn b j = start (startOwnRefusal b j) (ownValues b j) b (withOwnStarted b j)
 
 abbrev pub startSpeculationRefusal : Batch → ℕ → ℕ
 startSpeculationRefusal b j = refusalOn b (startSpeculationTests (snapshotOf b) j)
+
+abbrev pub speculationStarted : Batch → ℕ → Started
+speculationStarted b j = accepted (speculativeValues b j) (withSpeculationStarted b j)
 
 unfoldable pub startedSpeculation : Batch → ℕ → Started
 startedSpeculation b j = start (startSpeculationRefusal b j) (speculativeValues b j) b (withSpeculationStarted b j)

@@ -6,7 +6,6 @@ ghost use Prim.Native.Nat.{_<_};
 ghost use lib.Dec.{ltb};
 ghost use lib.ListN.{getD};
 ghost use Rattle.engine.specs.Form.{countsOut, statesOut, sourceLate, originsOut, heldOut, inForm};
-
 use crate::Batch;
 use crate::Run;
 use dependence::Job;
@@ -70,7 +69,15 @@ fn origins_out(run: Run, j: usize) -> bool
 }
 
 /// Whether what is held of job `j` is out of form.
-fn held_out(cell_count: u8, j: usize, job: Job, run: Run, committed: u8, running: u8, phase: u8) -> bool
+fn held_out(
+    cell_count: u8,
+    j: usize,
+    job: Job,
+    run: Run,
+    committed: u8,
+    running: u8,
+    phase: u8,
+) -> bool
     ensures { λ r. ⌜ r ≡ heldOut «cell_count» j job run committed running phase ⌝ }
 {
     if admission::job_refusal(job, cell_count) != 0 {
@@ -87,7 +94,12 @@ impl Batch {
     pub fn is_in_form(self) -> bool
         ensures { λ r. ⌜ r ≡ inForm self ⌝ }
     {
-        if counts_out(self.cell_count, self.job_count, self.sealed, self.speculating) {
+        if counts_out(
+            self.cell_count,
+            self.job_count,
+            self.sealed,
+            self.speculating,
+        ) {
             return false;
         }
         let n = self.job_count as usize;

@@ -6,6 +6,7 @@ use jobset::JobSet;
 mod form;
 mod opening;
 mod speculation;
+mod steps;
 
 /// A run of a job: the values handed out and the report on it. Of a speculative run also where its values came from:
 /// for each place one more than the number of the job it was forwarded from, 0 for the cell itself, and the jobs bypassed.

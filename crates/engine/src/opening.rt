@@ -5,7 +5,6 @@ ghost use Prim.Native.Nat.{_≤_, _<_};
 ghost use lib.ListN.{length};
 ghost use Rattle.engine.specs.Record.{blankRun};
 ghost use Rattle.engine.specs.Opening.{fresh, padded, opened, insertRefusal, withInserted, inserted, sealRefusal, withSealed, sealedWith};
-
 use crate::Answer;
 use crate::Batch;
 use crate::Run;

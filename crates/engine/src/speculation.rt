@@ -11,8 +11,7 @@ ghost use Rattle.dependence.specs.Ready.{isCommitted};
 ghost use Rattle.rules.specs.Snapshot.{isLive};
 ghost use Rattle.rules.specs.Speculation.{isInvalid};
 ghost use Rattle.engine.specs.Record.{snapshotOf};
-ghost use Rattle.engine.specs.Speculation.{lostAt, lostAny, invalidRun, writerNoted};
-
+ghost use Rattle.engine.specs.Speculation.{lostAt, lostAny, invalidRun, writerNoted, unusableAt, unusableAny};
 use crate::Batch;
 use crate::Run;
 use dependence::Job;
@@ -64,7 +63,13 @@ fn lost_any(sources: [u8; 4], phases: &[u8; 128], invalid: &[bool; 128]) -> bool
 }
 
 /// Whether the run, speculative in the phase given, is invalid: it bypassed a job that wrote, or lost a source.
-fn invalid_run(run: Run, phase: u8, wrote: JobSet, phases: &[u8; 128], invalid: &[bool; 128]) -> bool
+fn invalid_run(
+    run: Run,
+    phase: u8,
+    wrote: JobSet,
+    phases: &[u8; 128],
+    invalid: &[bool; 128],
+) -> bool
     requires { ⌜ (length (now phases) ≡ 128) × (length (now invalid) ≡ 128) ⌝ }
     ensures { λ r. ⌜ r ≡ invalidRun run phase wrote (now (phases .entry)) (now (invalid .entry)) ⌝ }
 {
@@ -92,9 +97,43 @@ fn with_writer(wrote: JobSet, j: usize, committed: u8, mark: u8) -> JobSet
     wrote
 }
 
+/// Whether the value at the place has a source that cannot be forwarded from: no stored report, or an invalid one.
+fn unusable_at(sources: [u8; 4], phases: &[u8; 128], invalid: &[bool; 128], place: usize) -> bool
+    requires { ⌜ (place < 4) × (length (now phases) ≡ 128) × (length (now invalid) ≡ 128) ⌝ }
+    ensures { λ r. ⌜ r ≡ unusableAt sources (now (phases .entry)) (now (invalid .entry)) place ⌝ }
+{
+    let source = sources[place] as usize;
+    if source == 0 {
+        return false;
+    }
+    let w = source - 1;
+    if 128 <= w {
+        return true;
+    }
+    if phases[w] != 2 {
+        return true;
+    }
+    invalid[w]
+}
+
+/// Whether one of the four places has such a source.
+pub(crate) fn unusable_any(sources: [u8; 4], phases: &[u8; 128], invalid: &[bool; 128]) -> bool
+    requires { ⌜ (length (now phases) ≡ 128) × (length (now invalid) ≡ 128) ⌝ }
+    ensures { λ r. ⌜ r ≡ unusableAny sources (now (phases .entry)) (now (invalid .entry)) ⌝ }
+{
+    let mut place: usize = 0;
+    while place < 4 {
+        if unusable_at(sources, phases, invalid, place) {
+            return true;
+        }
+        place += 1;
+    }
+    false
+}
+
 impl Batch {
     /// For each job held, whether its speculative run is invalid. One pass: runs are forwarded from earlier jobs only.
-    fn invalid_flags(self) -> [bool; 128]
+    pub(crate) fn invalid_flags(self) -> [bool; 128]
         requires { ⌜ self .«job_count» ≤ 128 ⌝ }
         ensures { λ r. ⌜ r ≡ column 128 (self .«job_count») (isInvalid (snapshotOf self)) false ⌝ }
     {

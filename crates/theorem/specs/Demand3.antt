@@ -1,4 +1,4 @@
--- Demand 3, stated. (Its proof is in proofs/.)
+-- Demand 3, stated. (specs/Theorem.antt proves it; specs/SameEnd.antt has its consequence for two lists.)
 use Prim.Native.Nat.{ℕ, _<_, _≤_}
 use mathlib.Core.Bool.{Bool, true, false, cond}
 use mathlib.Core.List.{List}

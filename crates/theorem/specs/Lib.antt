@@ -11,3 +11,14 @@ pub mod Agreement
 pub mod StepAgreement
 pub mod After
 pub mod Promises
+pub mod View
+pub mod RulesSay
+pub mod WalkSays
+pub mod Written
+pub mod Shaped
+pub mod StepStates
+pub mod Right
+pub mod Always
+pub mod Outcome
+pub mod Theorem
+pub mod SameEnd

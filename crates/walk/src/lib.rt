@@ -2,7 +2,6 @@
 //! committed, past the maybe-writers, to the nearest writer.
 
 ghost use mathlib.Core.Path.{_≡_};
-ghost use mathlib.Core.Bool.{_&&_};
 ghost use Prim.Native.Nat.{_<_, _≤_};
 ghost use Rattle.laws.specs.Search.{anyBelow};
 ghost use Rattle.dependence.specs.Job.{anyAccess};
@@ -26,7 +25,7 @@ fn writes_at(job: Job, cell: u8, mode: u8, i: usize) -> bool
     access.mode == mode
 }
 
-/// Whether one of the job's accesses is to the cell and has the mode, of writers or of maybe-writers.
+/// Whether one of the job's accesses is to the cell and has the mode: that of a writer, or of a maybe-writer.
 fn writes_cell(job: Job, cell: u8, mode: u8) -> bool
     ensures { λ r. ⌜ r ≡ anyAccess job (accessIs mode cell) ⌝ }
 {
@@ -40,7 +39,7 @@ fn writes_cell(job: Job, cell: u8, mode: u8) -> bool
     false
 }
 
-/// The same of a job that the walk meets: a committed one (`how` is not 0) is none of its stations.
+/// The same of a job that the walk comes to. A committed one (`how` is not 0) does not count: its write is in the cell.
 fn is_open_writer(earlier: Job, how: u8, cell: u8, mode: u8) -> bool
     ensures { λ r. ⌜ r ≡ openWriter earlier how cell mode ⌝ }
 {
@@ -111,7 +110,7 @@ fn bypasses_at(job: Job, sources: [u8; 4], earlier: Job, how: u8, i: usize, plac
     is_open_writer(earlier, how, access.cell, dependence::UNCERTAIN_WRITE)
 }
 
-/// Whether one of the walks does.
+/// Whether the walk from one of the places does.
 fn bypasses_one(job: Job, sources: [u8; 4], earlier: Job, how: u8, i: usize) -> bool
     ensures { λ r. ⌜ r ≡ anyBelow 4 (bypassGiven job sources earlier how i) ⌝ }
 {

@@ -4,7 +4,7 @@ use Prim.Native.Nat.{_≤_, _-_}
 use mathlib.Core.Path.{_≡_, sym, _∙_}
 use mathlib.Core.Logic.{⊎-elim}
 use lib.ListN.{length}
-use Rattle.walk.specs.Sources.{sourcesOf, setOf, bypassedIn}
+use Rattle.walk.specs.Sources.{setOf, bypassedIn}
 use Rattle.walk.specs.SourceLaws.{set-none, set-in, set-out, bypassed-past, bypass-given}
 use borrow.Author.Needs.{needs}
 use Rattle.walk.proofs.bypassed_by.Statement.{statement}

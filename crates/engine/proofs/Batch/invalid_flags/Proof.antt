@@ -60,10 +60,14 @@ loop-again : tie.Need-loop-again Inv-loop μ-loop
 loop-again c =
     let i = c .before in
     let l = i .before .before .before .before .before .before .loop in
-    let s = i .before .before .before .before .before .before .before .before .before in
-    (omega arith, l .inv .1, l .inv .2, l .inv .3,
-    invalid-step (s .args .t1) (l .j) (l .invalid) (l .wrote) (omega arith) (l .inv .4) (i .invalid-run .result) (c .with-writer .result)
-    (rw (l .inv .3) at (i .invalid-run .ensures)) (c .with-writer .ensures))
+    let s = i .before .before .before .before .before .before .before .before .before in (
+      omega arith,
+      l .inv .1,
+      l .inv .2,
+      l .inv .3,
+      invalid-step (s .args .t1) (l .j) (l .invalid) (l .wrote) (omega arith) (l .inv .4) (i .invalid-run .result) (c .with-writer .result)
+          (rw (l .inv .3) at (i .invalid-run .ensures)) (c .with-writer .ensures),
+    )
 
 -- all are
 returns : tie.Need-returns Inv-loop μ-loop

@@ -65,9 +65,12 @@ returns-2 c =
     let t = c .before .before .before .before .before .before .before in
     let l = t .before .loop in
     let s = t .before .before .before in
-    rw
-    (← s .counts-out .ensures, t .before .before .if1 .left, ← l .inv .2,
-    any-found _ (l .j) (jobOut (s .before .args .t1)) (t .loop-test .taken) (sym (c .before .held-out .ensures) ∙ c .if2 .taken))
+    rw (
+      ← s .counts-out .ensures,
+      t .before .before .if1 .left,
+      ← l .inv .2,
+      any-found _ (l .j) (jobOut (s .before .args .t1)) (t .loop-test .taken) (sym (c .before .held-out .ensures) ∙ c .if2 .taken),
+    )
 
 add-j : tie.Need-add-j Inv-loop μ-loop
 add-j c = omega arith
@@ -87,9 +90,12 @@ unfolding inForm
 returns-3 c =
     let l = c .before .loop in
     let s = c .before .before .before in
-    rw
-    (← s .counts-out .ensures, c .before .before .if1 .left, ← l .inv .2,
-    sym (missed _ _ (jobOut (s .before .args .t1)) (l .inv .0) (c .loop-test .left) (l .inv .3)))
+    rw (
+      ← s .counts-out .ensures,
+      c .before .before .if1 .left,
+      ← l .inv .2,
+      sym (missed _ _ (jobOut (s .before .args .t1)) (l .inv .0) (c .loop-test .left) (l .inv .3)),
+    )
 
 pub is-in-form-spec : {M : Type 1} → statement M
 is-in-form-spec =

@@ -18,16 +18,22 @@ returns-3 c = rw (ne-eqb _ _ (c .before .before .if1 .left), le-ltb _ _ (c .befo
 -- sealed is neither 0 nor 1
 returns-4 : tie.Need-returns-4
 returns-4 c =
-    rw
-    (ne-eqb _ _ (c .before .before .before .if1 .left), le-ltb _ _ (c .before .before .if2 .left), le-ltb _ _ (c .before .if3 .left),
-    lt-ltb _ _ (c .if4 .taken))
+    rw (
+      ne-eqb _ _ (c .before .before .before .if1 .left),
+      le-ltb _ _ (c .before .before .if2 .left),
+      le-ltb _ _ (c .before .if3 .left),
+      lt-ltb _ _ (c .if4 .taken),
+    )
 
 -- the guess switch decides
 returns-5 : tie.Need-returns-5
 returns-5 c =
-    rw
-    (ne-eqb _ _ (c .before .before .before .if1 .left), le-ltb _ _ (c .before .before .if2 .left), le-ltb _ _ (c .before .if3 .left),
-    le-ltb _ _ (c .if4 .left))
+    rw (
+      ne-eqb _ _ (c .before .before .before .if1 .left),
+      le-ltb _ _ (c .before .before .if2 .left),
+      le-ltb _ _ (c .before .if3 .left),
+      le-ltb _ _ (c .if4 .left),
+    )
 
 pub counts-out-spec : {M : Type 1} → statement M
 counts-out-spec = tie.close (tie.spec returns returns-2 returns-3 returns-4 returns-5)

@@ -23,7 +23,7 @@ source-late-requires c κs = omega arith
 
 -- a late source
 returns : tie.Need-returns Inv-loop μ-loop
-returns c = 
+returns c =
     let a = c .before .before .before .before .args in
     rw
     (any-found 4 _ (sourceLate (a .run) (a .j)) (c .before .before .loop-test .taken)

@@ -43,10 +43,11 @@ loop-less c = omega arith
 
 loop-again : tie.Need-loop-again Inv-loop μ-loop
 loop-again c =
-    let l = c .before .before .loop in
-    (omega arith,
-    rw (toZ-ofZ (sfits-of {w = w32} (c .height .given)), l .inv .1)
-    (copy-more (replicate 64 (pos 0)) (now (c .before .before .before .args .heights)) (l .i) (pos 0) (omega arith) (omega arith)))
+    let l = c .before .before .loop in (
+      omega arith,
+      rw (toZ-ofZ (sfits-of {w = w32} (c .height .given)), l .inv .1)
+          (copy-more (replicate 64 (pos 0)) (now (c .before .before .before .args .heights)) (l .i) (pos 0) (omega arith) (omega arith)),
+    )
 
 -- all are
 returns : tie.Need-returns Inv-loop μ-loop

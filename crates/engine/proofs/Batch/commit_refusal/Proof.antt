@@ -1,0 +1,75 @@
+-- `Batch::commit_refusal` meets its contract: what every step asks, and then its own tests.
+use native.Mathlib.Omega.{arith}
+use mathlib.Core.Path.{_≡_, sym, _∙_}
+use borrow.Author.Tests.{eq-eqb, ne-eqb}
+use Rattle.engine.specs.StepLaws.{step-early, step-place, step-then, step-few, step-invalid, ready-is}
+use borrow.Author.Needs.{needs}
+use Rattle.engine.proofs.Batch.commit_refusal.Statement.{statement}
+use Rattle.engine.proofs.Batch.commit_refusal.Tie as tie
+
+step-refusal-requires : tie.Need-step-refusal-requires
+step-refusal-requires c κs = search needs
+
+-- refused at once
+returns : tie.Need-returns
+returns c =
+    let a = c .before .before .args in
+    rw (c .before .step-refusal .ensures)
+    (sym (step-early (a .t1) (a .j) _ (rw (← c .before .step-refusal .ensures) (ne-eqb _ _ (c .if1 .taken)))))
+
+array-read-how : tie.Need-array-read-how
+array-read-how c = omega (arith, step-place (c .before .before .before .before .args .t1) (c .before .before .before .before .args .j) (sym (c .before .before .before .step-refusal .ensures) ∙ c .before .before .if1 .left))
+
+element-copy-out-phase : tie.Need-element-copy-out-phase
+element-copy-out-phase c = omega (arith, step-place (c .before .before .before .before .args .t1) (c .before .before .before .before .args .j) (sym (c .before .before .before .step-refusal .ensures) ∙ c .before .before .if1 .left))
+
+either-requires : tie.Need-either-requires
+either-requires c κs = search needs
+
+is-ready-requires : tie.Need-is-ready-requires
+is-ready-requires c κs = search needs
+
+invalid-flags-requires : tie.Need-invalid-flags-requires
+invalid-flags-requires c κs =
+    let e = c .before .before .before .before .before in
+    let a = e .before .before .args in
+    let held = sym (e .before .step-refusal .ensures) ∙ e .if1 .left in
+    step-few (a .t1) (a .j) held
+
+array-read-invalid : tie.Need-array-read-invalid
+array-read-invalid c = omega (arith, step-place (c .before .before .before .before .before .before .before .before .args .t1) (c .before .before .before .before .before .before .before .before .args .j) (sym (c .before .before .before .before .before .before .before .step-refusal .ensures) ∙ c .before .before .before .before .before .before .if1 .left))
+
+first-of-three-requires : tie.Need-first-of-three-requires
+first-of-three-requires c κs = search needs
+
+-- its own tests decide
+returns-2 : tie.Need-returns-2
+returns-2 c =
+    let e = c .before .before .before .before .before .before .before in
+    let a = e .before .before .args in
+    let held = sym (e .before .step-refusal .ensures) ∙ e .if1 .left in
+    let flags = c .before in
+    let ready = flags .before in
+    rw (
+      step-then (a .t1) (a .j) held _,
+      c .first-of-three .ensures,
+      step-invalid (a .t1) (a .j) held (flags .invalid-flags .result) (flags .invalid-flags .ensures),
+      ready .is-ready .ensures,
+      ready .before .either .ensures,
+      ready-is (a .t1) (a .j),
+    )
+
+pub commit-refusal-spec : {M : Type 1} → statement M
+commit-refusal-spec =
+    tie.close
+    (tie.spec
+    step-refusal-requires
+    returns
+    array-read-how
+    element-copy-out-phase
+    either-requires
+    is-ready-requires
+    invalid-flags-requires
+    array-read-invalid
+    first-of-three-requires
+    returns-2)
