@@ -5,6 +5,9 @@ pub mod Opening
 pub mod OpeningLaws
 pub mod Steps
 pub mod Perform
+pub mod ByNumber
+pub mod Ask
+pub mod AskLaws
 pub mod StepLaws
 pub mod SourceLimit
 pub mod SourceMissing

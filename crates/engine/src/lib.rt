@@ -3,6 +3,8 @@
 use dependence::Job;
 use jobset::JobSet;
 
+mod ask;
+mod by_number;
 mod form;
 mod opening;
 mod speculation;
@@ -49,4 +51,33 @@ pub struct Started {
     pub refusal: u8,
     pub handed: [i32; 4],
     pub batch: Batch,
+}
+
+/// What asking a cell answers: its height, 0 where it is refused.
+pub struct CellAnswer {
+    pub refusal: u8,
+    pub height: i32,
+}
+
+/// What asking a job answers: how it was committed and its mark, whether its own run is out, the phase of its
+/// speculative run, the values of the run it holds, and the job as inserted. All are 0 where it is refused.
+pub struct JobAnswer {
+    pub refusal: u8,
+    pub committed: u8,
+    pub wrote: u8,
+    pub running: u8,
+    pub phase: u8,
+    pub handed: [i32; 4],
+    pub reported: [i32; 4],
+    pub job: Job,
+}
+
+/// What asking for the batch's progress answers. All are 0, and `finished` is false, where it is refused.
+pub struct BatchAnswer {
+    pub refusal: u8,
+    pub cell_count: u8,
+    pub job_count: u8,
+    pub sealed: u8,
+    pub speculating: u8,
+    pub finished: bool,
 }

@@ -1,0 +1,36 @@
+-- `Batch::job_ask_refusal` meets its contract.
+use Rattle.laws.specs.Refusal.{first, hit, skip, none}
+use borrow.Author.Tests.{le-leb, lt-leb}
+use borrow.Author.Needs.{needs}
+use Rattle.engine.specs.Ask.{jobAskRefusal}
+use Rattle.engine.proofs.Batch.job_ask_refusal.Statement.{statement}
+use Rattle.engine.proofs.Batch.job_ask_refusal.Tie as tie
+
+is-in-form-requires : tie.Need-is-in-form-requires
+is-in-form-requires c κs = search needs
+
+cast-if2 : tie.Need-cast-if2
+cast-if2 c = search needs
+
+-- no such job
+returns : tie.Need-returns
+unfolding jobAskRefusal
+returns c =
+    let k = c .before .before in
+    rw (← k .before .is-in-form .ensures, k .if1 .taken) (first (hit (le-leb _ _ (c .if2 .taken))))
+
+-- allowed
+returns-2 : tie.Need-returns-2
+unfolding jobAskRefusal
+returns-2 c =
+    let k = c .before .before in
+    rw (← k .before .is-in-form .ensures, k .if1 .taken) (first (skip (lt-leb _ _ (c .if2 .left)) none))
+
+-- out of form
+returns-3 : tie.Need-returns-3
+unfolding jobAskRefusal
+returns-3 c = rw (← c .before .is-in-form .ensures, c .if1 .left)
+
+pub job-ask-refusal-spec : {M : Type 1} → statement M
+job-ask-refusal-spec =
+    tie.close (tie.spec is-in-form-requires cast-if2 returns returns-2 returns-3)

@@ -1,0 +1,53 @@
+-- The steps by their numbers. Document 01: "Each step is an entry of its own; the step numbers serve plans and the chooser."
+use Prim.Native.Nat.{ℕ}
+use mathlib.Core.Bool.{cond}
+use mathlib.Core.List.{List}
+use mathlib.Core.Path.{_≡_, refl}
+use lib.Dec.{eqb}
+use lib.IntN.{ℤ, pos}
+use lib.ListN.{replicate}
+use Rattle.rules.specs.Call.{startOwn, startSpeculation, reportOwn, reportSpeculation, commit}
+use Rattle.engine.specs.declared.Batch.{Batch}
+use Rattle.engine.specs.declared.Answer.{Answer}
+use Rattle.engine.specs.declared.Started.{Started}
+use Rattle.engine.specs.Form.{inForm}
+use Rattle.engine.specs.Steps.{startedOwn, startedSpeculation, reportedOwn, reportedSpeculation, committedBy}
+use Rattle.engine.specs.Perform.{perform}
+
+-- A step that hands nothing out answers with four zeros.
+abbrev pub withoutValues : Answer → Started
+withoutValues a = record { refusal = a .refusal; handed = replicate 4 (pos 0); batch = a .batch }
+
+-- "A step above 4 gives 21", on a record in form.
+abbrev pub noSuchStep : Batch → Started
+noSuchStep b = record { refusal = cond (inForm b) 21 32; handed = replicate 4 (pos 0); batch = b }
+
+unfoldable pub stepped : Batch → ℕ → ℕ → List ℤ → ℕ → Started
+stepped b number j values wrote =
+    cond (eqb number 0) (startedOwn b j)
+    (cond (eqb number 1) (startedSpeculation b j)
+    (cond (eqb number 2) (withoutValues (reportedOwn b j values wrote))
+    (cond (eqb number 3) (withoutValues (reportedSpeculation b j values wrote))
+    (cond (eqb number 4) (withoutValues (committedBy b j)) (noSuchStep b)))))
+
+-- So a step by its number is the call that demand 3 speaks of.
+module _ (b : Batch) (j : ℕ) (values : List ℤ) (wrote : ℕ) where
+  pub step-0 : stepped b 0 j values wrote ≡ perform b (startOwn j)
+  unfolding stepped perform
+  step-0 = refl
+
+  pub step-1 : stepped b 1 j values wrote ≡ perform b (startSpeculation j)
+  unfolding stepped perform
+  step-1 = refl
+
+  pub step-2 : stepped b 2 j values wrote ≡ perform b (reportOwn j values wrote)
+  unfolding stepped perform
+  step-2 = refl
+
+  pub step-3 : stepped b 3 j values wrote ≡ perform b (reportSpeculation j values wrote)
+  unfolding stepped perform
+  step-3 = refl
+
+  pub step-4 : stepped b 4 j values wrote ≡ perform b (commit j)
+  unfolding stepped perform
+  step-4 = refl
