@@ -6,12 +6,15 @@ use mathlib.Core.Option.{Option, none, some}
 use mathlib.Core.Path.{_≡_}
 use lib.IntN.{ℤ}
 use lib.ListN.{length}
+use Rattle.dependence.specs.Ready.{isCommitted}
 use Rattle.rules.specs.Call.{Call, startOwn, startSpeculation, reportOwn, reportSpeculation, commit}
 use Rattle.rules.specs.Refusals.{refusalOf}
 use Rattle.rules.specs.Values.{valueAt, wroteRefused}
 use Rattle.engine.specs.declared.Batch.{Batch}
 use Rattle.engine.specs.declared.Started.{Started}
-use Rattle.engine.specs.Record.{runAt, committedAt}
+use Rattle.engine.specs.declared.CellAnswer.{CellAnswer}
+use Rattle.engine.specs.declared.JobAnswer.{JobAnswer}
+use Rattle.engine.specs.Ask.{askedCell, askedJob}
 use Rattle.engine.specs.Opening.{opened}
 use Rattle.engine.specs.Perform.{perform}
 use Rattle.theorem.specs.Ledger.{Ledger, Entry, Counted, emptyLedger, snapshotOfLedger, isSome}
@@ -44,13 +47,14 @@ pub record Demand3 (b : Batch) (l : Ledger) : Type 0 where
   pub four-steps : (j : ℕ) → l .entry j .steps ≤ 4
   -- while a job of a sealed batch is unsettled, some step is accepted
   pub progress : isSome (l .switch) ≡ true → (j : ℕ) → j < l .jobCount → l .entry j .counted ≡ none → Accepted b l
-  -- the cells are those of the insertion-order run of what is counted so far
-  pub cells : (x : ℕ) → x < length (l .heights) → valueAt (b .cells) x ≡ valueAt (replay l (l .jobCount)) x
-  -- each counted run was handed what the jobs before it left
+  -- a cell, as asked for, is that of the insertion-order run of what is counted so far
+  pub cells : (x : ℕ) → x < length (l .heights)
+      → askedCell b x ≡ record { refusal = 0; height = valueAt (replay l (l .jobCount)) x }
+  -- each counted run was handed, in all four places, what the jobs before it left
   pub handed : (j : ℕ) (c : Counted) → l .entry j .counted ≡ some c → c .handed ≡ leftFor l j
-  -- a job is settled where it has a counted report, with that report's mark
-  pub settled : (j : ℕ) → committedAt b j ≡ isSome (l .entry j .counted)
-  pub marks : (j : ℕ) (c : Counted) → l .entry j .counted ≡ some c → runAt b j .wrote ≡ c .report .wrote
+  -- a job, as asked for, is settled where it has a counted report, and with that report's mark
+  pub settled : (j : ℕ) → j < l .jobCount → isCommitted (askedJob b j .committed) ≡ isSome (l .entry j .counted)
+  pub marks : (j : ℕ) (c : Counted) → l .entry j .counted ≡ some c → askedJob b j .wrote ≡ c .report .wrote
 
 -- The claim for every accepted opening and every list of calls.
 abbrev pub Demand3Statement : Type 0

@@ -11,6 +11,7 @@ pub mod Agreement
 pub mod StepAgreement
 pub mod After
 pub mod Promises
+pub mod AsAsked
 pub mod View
 pub mod RulesSay
 pub mod WalkSays

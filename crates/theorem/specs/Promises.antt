@@ -202,19 +202,3 @@ some-step {b} {l} agree sealed j below unsettled =
     let first = first-failing (λ i. isCounted (l .entry i)) j (ap isSome unsettled) in
     first-moves agree sealed (first .place) (omega (arith, first .within)) (first .fails) (first .earlier)
     (next-of (agree .job-is (first .place) .stage) (first .fails))
-
--- Demand 3 of a batch and a ledger that agree, once the cells and the values handed to counted runs are known to be those
--- of the insertion-order run.
-pub demand-of : {b : Batch} {l : Ledger} → Faithful b l
-    → ((x : ℕ) → x < length (l .heights) → valueAt (b .cells) x ≡ valueAt (replay l (l .jobCount)) x)
-    → ((j : ℕ) (k : Counted) → l .entry j .counted ≡ some k → k .handed ≡ leftFor l j) → Demand3 b l
-demand-of agree cells handed =
-    record {
-      exact = exact-refusal agree;
-      four-steps = at-most-four agree;
-      progress = some-step agree;
-      cells = cells;
-      handed = handed;
-      settled = settled-counted agree;
-      marks = settled-mark agree;
-    }

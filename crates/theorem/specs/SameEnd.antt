@@ -13,7 +13,9 @@ use Rattle.dependence.specs.declared.Job.{Job}
 use Rattle.rules.specs.Values.{valueAt, presentValues, writeBack}
 use Rattle.rules.specs.Call.{Call, insert, seal, startOwn, startSpeculation, reportOwn, reportSpeculation, commit}
 use Rattle.engine.specs.declared.Batch.{Batch}
-use Rattle.engine.specs.Record.{runAt}
+use Rattle.engine.specs.declared.CellAnswer.{CellAnswer}
+use Rattle.engine.specs.declared.JobAnswer.{JobAnswer}
+use Rattle.engine.specs.Ask.{askedCell, askedJob}
 use Rattle.engine.specs.Opening.{opened}
 use Rattle.theorem.specs.Ledger.{Report, Counted, Ledger, emptyLedger, isSome, isCounted, enter}
 use Rattle.theorem.specs.Replay.{turn, replay, leftFor}
@@ -33,10 +35,15 @@ pub record SameJobs (l m : Ledger) : Type 0 where
   pub count-same : l .jobCount ≡ m .jobCount
   pub jobs-same : (j : ℕ) → j < l .jobCount → l .job j ≡ m .job j
 
--- Two batches that ended alike: in their first cells, and in the marks of their first jobs.
+-- Two batches that ended alike: in their first cells, and in the marks of their first jobs,
+-- as asked for.
 pub record EndAlike (cellCount jobCount : ℕ) (b d : Batch) : Type 0 where
-  pub cells-same : (x : ℕ) → x < cellCount → valueAt (b .cells) x ≡ valueAt (d .cells) x
-  pub marks-same : (j : ℕ) → j < jobCount → runAt b j .wrote ≡ runAt d j .wrote
+  pub cells-same : (x : ℕ) → x < cellCount → askedCell b x ≡ askedCell d x
+  pub marks-same : (j : ℕ) → j < jobCount → askedJob b j .wrote ≡ askedJob d j .wrote
+
+-- What is told of a cell that holds the height.
+abbrev told : ℤ → CellAnswer
+told height = record { refusal = 0; height = height }
 
 -- What is counted of a settled job.
 record IsCounted (counted : Option Counted) : Type 0 where
@@ -101,8 +108,8 @@ module _ {b d : Batch} {l m : Ledger} (claim-l : Demand3 b l) (claim-m : Demand3
       record {
         cells-same = λ x h.
             claim-l .cells x h
-            ∙ ap (λ (cells : List ℤ). valueAt cells x) (replays-same (l .jobCount) (omega arith))
-            ∙ ap (λ (n : ℕ). valueAt (replay m n) x) (same .count-same)
+            ∙ ap (λ (cells : List ℤ). told (valueAt cells x)) (replays-same (l .jobCount) (omega arith))
+            ∙ ap (λ (n : ℕ). told (valueAt (replay m n) x)) (same .count-same)
             ∙ sym (claim-m .cells x (omega (arith, ap length (same .heights-same))));
         marks-same = λ j h.
             let c = counted-l j h in

@@ -1,8 +1,16 @@
 -- Demand 3, proved.
+use mathlib.Core.Path.{ap, _∙_}
+use lib.IntN.{ℤ}
+use Rattle.engine.specs.declared.CellAnswer.{CellAnswer}
 use Rattle.theorem.specs.Demand3.{Demand3Statement}
-use Rattle.theorem.specs.Promises.{demand-of}
+use Rattle.theorem.specs.Promises.{exact-refusal, at-most-four, some-step}
+use Rattle.theorem.specs.AsAsked.{asked-cell, asked-settled, asked-mark}
 use Rattle.theorem.specs.Always.{sound-always}
 use Rattle.theorem.specs.Outcome.{cells-are-replayed, handed-is-left}
+
+-- What is told of a cell that holds the height.
+abbrev told : ℤ → CellAnswer
+told height = record { refusal = 0; height = height }
 
 -- For every accepted opening and every list of calls: each call is accepted exactly where document 01 allows it, no job
 -- has more than four steps, some step is accepted while a job of a sealed batch is unsettled, the cells are those of the
@@ -11,4 +19,13 @@ use Rattle.theorem.specs.Outcome.{cells-are-replayed, handed-is-left}
 pub demand3 : Demand3Statement
 demand3 heights calls e =
     let sound = sound-always heights calls e in
-    demand-of (sound .agree) (cells-are-replayed sound) (handed-is-left sound)
+    let agree = sound .agree in
+    record {
+      exact = exact-refusal agree;
+      four-steps = at-most-four agree;
+      progress = some-step agree;
+      cells = λ x h. asked-cell agree x h ∙ ap told (cells-are-replayed sound x h);
+      handed = handed-is-left sound;
+      settled = asked-settled agree;
+      marks = asked-mark agree;
+    }
