@@ -1,7 +1,7 @@
 -- Jobs and their accesses.
 -- Document 01: "A job has a kind (0 to 6), a 32-bit signed parameter p, and 1 to 4 accesses, each a cell and a mode:
 -- 0 read, 1 write, 2 maybe-write."
-use Prim.Native.Nat.{ℕ, _<_}
+use Prim.Native.Nat.{ℕ}
 use mathlib.Core.Bool.{Bool, not, _&&_}
 use mathlib.Core.List.{List, []}
 use lib.Dec.{eqb, leb}

@@ -1,22 +1,19 @@
 -- The pass that finds the invalid speculative runs, from the first job on.
-use Prim.Native.Nat.{ℕ, zero, suc, _+_, _-_, _<_, _≤_}
+use Prim.Native.Nat.{ℕ, zero, suc, _+_, _-_, _<_}
 use native.Mathlib.Omega.{arith}
-use native.Mathlib.Numerals.{add-one}
-use mathlib.Core.Bool.{Bool, true, false, cond, not, _&&_, _||_}
-use mathlib.Core.List.{List, [], _∷_, _++_}
+use mathlib.Core.Bool.{Bool, false, _&&_}
+use mathlib.Core.List.{List}
 use mathlib.Core.Path.{_≡_, refl, sym, ap, _∙_}
-use lib.Dec.{eqb, ltb}
+use lib.Dec.{ltb}
 use lib.ListN.{getD, set, replicate}
 use Rattle.laws.specs.Search.{anyBelow, any-same, any-narrow}
 use Rattle.laws.specs.Fold.{upTo, column, column-none, column-more, column-get}
-use Rattle.dependence.specs.Ready.{isCommitted}
 use Rattle.jobset.specs.declared.JobSet.{JobSet}
-use Rattle.jobset.specs.JobSet.{emptySet, hasJob, withJob, meetsWith}
+use Rattle.jobset.specs.JobSet.{emptySet, hasJob, meetsWith}
 use Rattle.walk.specs.Sources.{setOf}
 use Rattle.walk.specs.SourceLaws.{set-none, set-more, has-set-of}
-use Rattle.rules.specs.Snapshot.{Snapshot, isDiscarded, isLive}
-use Rattle.rules.specs.Speculation.{sourceLost, invalidGiven, invalidBelow, isInvalid}
-use Rattle.engine.specs.declared.Run.{Run}
+use Rattle.rules.specs.Snapshot.{Snapshot}
+use Rattle.rules.specs.Speculation.{sourceLost, invalidBelow, isInvalid}
 use Rattle.engine.specs.declared.Batch.{Batch}
 use Rattle.engine.specs.Record.{runAt, snapshotOf}
 use Rattle.engine.specs.Speculation.{lostAt, invalidRun, writerNoted}

@@ -3,10 +3,9 @@ use Prim.Native.Nat.{ℕ, _<_}
 use native.Mathlib.Omega.{arith}
 use mathlib.Core.Bool.{Bool, true, false, cond}
 use mathlib.Core.List.{List, _∷_}
-use mathlib.Core.Path.{_≡_, refl, sym, _∙_}
-use lib.Dec.{eqb, leb, ltb}
+use mathlib.Core.Path.{_≡_, refl}
+use lib.Dec.{leb}
 use borrow.Author.Tests.{leb-false}
-use Rattle.laws.specs.Search.{if-or}
 use Rattle.laws.specs.Refusal.{Refusal, when, firstOf}
 use Rattle.dependence.specs.declared.Job.{Job}
 use Rattle.admission.specs.Admission.{jobRefusals}

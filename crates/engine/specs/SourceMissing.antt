@@ -3,7 +3,7 @@ use Prim.Native.Nat.{ℕ, _-_, _<_, _≤_}
 use native.Mathlib.Omega.{arith}
 use mathlib.Core.Bool.{Bool, true, false, cond, not, _||_}
 use mathlib.Core.List.{List}
-use mathlib.Core.Path.{_≡_, refl}
+use mathlib.Core.Path.{_≡_}
 use lib.Dec.{eqb}
 use lib.ListN.{getD}
 use borrow.Author.Tests.{eqb-false}
@@ -12,7 +12,6 @@ use Rattle.laws.specs.Fold.{column, column-at}
 use Rattle.dependence.specs.Job.{inUse, accessAt, jobAt}
 use Rattle.walk.specs.Sources.{sourcesOf}
 use Rattle.walk.specs.SourceLaws.{source-le}
-use Rattle.rules.specs.Walk.{sourceBelow}
 use Rattle.rules.specs.Snapshot.{isStored}
 use Rattle.rules.specs.Speculation.{isInvalid, sourceNow, unusable, sourceMissing}
 use Rattle.engine.specs.declared.Batch.{Batch}

@@ -1,25 +1,21 @@
 -- The tests on speculative runs as the code makes them, on the record's columns, and that they are the rules'.
-use Prim.Native.Nat.{ℕ, suc, _+_, _-_, _<_, _≤_}
-use native.Mathlib.Omega.{arith}
-use native.Mathlib.Numerals.{add-one}
-use mathlib.Core.Bool.{Bool, true, false, cond, not, _&&_, _||_}
-use mathlib.Core.List.{List, [], _∷_, _++_}
-use mathlib.Core.Path.{_≡_, refl, sym, ap, _∙_}
-use lib.Dec.{eqb, ltb}
+use Prim.Native.Nat.{ℕ, _-_}
+use mathlib.Core.Bool.{Bool, false, cond, not, _&&_, _||_}
+use mathlib.Core.List.{List}
+use lib.Dec.{eqb}
 use lib.IntN.{ℤ}
-use lib.ListN.{length, getD, set, replicate}
+use lib.ListN.{getD}
 use Rattle.laws.specs.Search.{anyBelow}
-use Rattle.laws.specs.Fold.{upTo, column}
 use Rattle.dependence.specs.declared.Job.{Job}
 use Rattle.dependence.specs.Job.{accessAt, jobAt}
 use Rattle.dependence.specs.Ready.{isCommitted}
 use Rattle.jobset.specs.declared.JobSet.{JobSet}
-use Rattle.jobset.specs.JobSet.{hasJob, withJob, meetsWith}
+use Rattle.jobset.specs.JobSet.{withJob, meetsWith}
 use Rattle.rules.specs.Values.{valueAt, valueFor}
 use Rattle.rules.specs.Snapshot.{isStored, isDiscarded, isLive}
 use Rattle.engine.specs.declared.Run.{Run}
 use Rattle.engine.specs.declared.Batch.{Batch}
-use Rattle.engine.specs.Record.{runAt, snapshotOf}
+use Rattle.engine.specs.Record.{runAt}
 
 -- Invalid runs.
 

@@ -1,16 +1,16 @@
 -- The five steps, on the record.
 use Prim.Native.Nat.{ℕ, _-_}
-use mathlib.Core.Bool.{Bool, cond}
+use mathlib.Core.Bool.{cond}
 use mathlib.Core.List.{List, [], _∷_}
 use lib.Dec.{eqb}
 use lib.IntN.{ℤ, pos}
 use lib.ListN.{getD, set, replicate}
 use Rattle.dependence.specs.declared.Job.{Job}
-use Rattle.dependence.specs.Job.{inUse, accessAt, jobAt}
+use Rattle.dependence.specs.Job.{accessAt, jobAt}
 use Rattle.jobset.specs.declared.JobSet.{JobSet}
 use Rattle.jobset.specs.JobSet.{emptySet}
 use Rattle.walk.specs.Sources.{setOf}
-use Rattle.rules.specs.Values.{four, valueAt, valueFor, presentAt, presentValues, storedValues, writeBack}
+use Rattle.rules.specs.Values.{four, valueFor, presentAt, presentValues, storedValues, writeBack}
 use Rattle.rules.specs.Speculation.{sourceNow, bypassedNow}
 use Rattle.rules.specs.Refusals.{stepTests, startOwnTests, startSpeculationTests, reportOwnTests, reportSpeculationTests, commitTests}
 use Rattle.engine.specs.declared.Run.{Run}

@@ -2,7 +2,6 @@
 
 ghost use mathlib.Core.Path.{_≡_};
 ghost use Rattle.engine.specs.ByNumber.{withoutValues, noSuchStep, stepped};
-
 use crate::Answer;
 use crate::Batch;
 use crate::Started;

@@ -6,7 +6,7 @@ use native.Mathlib.Nat.{sub-zero, suc-sub-suc, eq-or-lt-of-le}
 use mathlib.Core.Logic.{⊎-elim}
 use mathlib.Core.Bool.{Bool, true, false, cond, _||_}
 use mathlib.Core.List.{List, [], _∷_, _++_, append-assoc}
-use mathlib.Core.Path.{_≡_, refl, sym, ap, _∙_}
+use mathlib.Core.Path.{_≡_, refl, sym, _∙_}
 use lib.ListN.{length, getD, set, drop, replicate, length-append, length-set, length-replicate, List·getD-append}
 use lib.Seq.{set-at, getD-at, drop-at, drop-cons, drop-set-lt, getD-set-same}
 use Rattle.laws.specs.Search.{anyBelow}

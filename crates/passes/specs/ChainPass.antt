@@ -1,16 +1,16 @@
 -- The pass that computes the chain lengths, from the last job back.
-use Prim.Native.Nat.{ℕ, suc, _<_, _≤_, max, min}
+use Prim.Native.Nat.{ℕ, suc, _<_, max, min}
 use native.Mathlib.Omega.{arith}
 use mathlib.Core.Bool.{Bool, true, false, cond}
 use mathlib.Core.List.{List, [], _∷_}
 use mathlib.Core.Path.{_≡_, refl, sym, ap, _∙_}
-use lib.ListN.{length, getD, set, take, drop, replicate, length-set, length-take, length-drop, drop-of-length-le}
+use lib.ListN.{length, set, take, drop, replicate, length-set, length-take, length-drop, drop-of-length-le}
 use lib.Seq.{drop-cons, getD-take}
 use Rattle.laws.specs.Fold.{column, column-at, length-column, back-none, back-more}
 use Rattle.dependence.specs.declared.Job.{Job}
 use Rattle.dependence.specs.Job.{noJob, jobAt}
 use Rattle.dependence.specs.Conflict.{touches, conflicts}
-use Rattle.passes.specs.Chain.{longest, chainLength, laterJobs, chainLengthAt}
+use Rattle.passes.specs.Chain.{longest, laterJobs, chainLengthAt}
 use Rattle.passes.specs.ChainLaws.{longest-le, longest-none, longest-or}
 use Rattle.passes.specs.Tables.{asked, met, noted, ByteCells}
 use Rattle.passes.specs.TableLaws.{Measure, Table, blank, noted-table, met-is}

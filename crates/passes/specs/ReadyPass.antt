@@ -1,10 +1,9 @@
 -- The pass that computes which jobs are ready, from the first job on.
 use Prim.Native.Nat.{ℕ, suc, _+_, _<_, max}
-use native.Mathlib.Omega.{arith}
 use native.Mathlib.Numerals.{add-one}
 use mathlib.Core.Bool.{Bool, true, false, cond, not, _&&_, _||_}
 use mathlib.Core.List.{List}
-use mathlib.Core.Path.{_≡_, refl, sym, ap, _∙_}
+use mathlib.Core.Path.{_≡_, refl, ap, _∙_}
 use lib.Dec.{eqb}
 use lib.ListN.{getD, set, replicate}
 use Rattle.laws.specs.Search.{anyBelow, any-same, any-or, any-absent}

@@ -1,19 +1,13 @@
 -- The tables of a pass over the jobs: one number a cell, and what they say of the jobs passed.
-use Prim.Native.Nat.{ℕ, zero, suc, _<_, max}
-use native.Mathlib.Omega.{arith}
-use mathlib.Core.Bool.{Bool, true, false, cond, not, _&&_, _||_}
+use Prim.Native.Nat.{ℕ, _<_, max}
+use mathlib.Core.Bool.{cond, _&&_}
 use mathlib.Core.List.{List}
-use mathlib.Core.Path.{_≡_, refl, sym, ap, _∙_}
-use lib.Dec.{eqb, leb}
-use lib.ListN.{length, getD, set, replicate, length-set, getD-replicate}
-use lib.Seq.{getD-set-same, getD-set-other}
-use borrow.Author.Tests.{eq-eqb, eqb-true, eqb-false}
-use Rattle.laws.specs.Search.{anyBelow, if-or}
-use Rattle.laws.specs.Fold.{maxBelow, max-same, foldBelow, fold-keeps}
+use lib.ListN.{getD, set}
+use Rattle.laws.specs.Fold.{maxBelow, foldBelow}
 use Rattle.dependence.specs.declared.Access.{Access}
 use Rattle.dependence.specs.declared.Job.{Job}
 use Rattle.dependence.specs.Job.{isRead, inUse, accessAt}
-use Rattle.dependence.specs.Conflict.{accessesConflict, touchesAt, touches, conflictAt, conflicts}
+use Rattle.dependence.specs.Conflict.{accessesConflict}
 
 -- An access to the cell in the mode: what a table is asked for.
 abbrev pub asked : ℕ → ℕ → Access

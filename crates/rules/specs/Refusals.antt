@@ -1,7 +1,7 @@
 -- What is refused, in the order of the numbers. Document 01: "If several apply, the lowest number is given."
 -- (32, a record out of form, goes before all: the engine's own definitions add it.)
 use Prim.Native.Nat.{ℕ}
-use mathlib.Core.Bool.{Bool, not, _||_}
+use mathlib.Core.Bool.{not, _||_}
 use mathlib.Core.List.{List, [], _∷_}
 use lib.Dec.{leb, ltb}
 use Rattle.laws.specs.Refusal.{Refusal, when, firstOf}

@@ -1,8 +1,8 @@
 -- Demand 3, stated. (specs/Theorem.antt proves it; specs/SameEnd.antt has its consequence for two lists.)
 use Prim.Native.Nat.{ℕ, _<_, _≤_}
-use mathlib.Core.Bool.{Bool, true, false, cond}
+use mathlib.Core.Bool.{true, false}
 use mathlib.Core.List.{List}
-use mathlib.Core.Option.{Option, none, some}
+use mathlib.Core.Option.{none, some}
 use mathlib.Core.Path.{_≡_}
 use lib.IntN.{ℤ}
 use lib.ListN.{length}
@@ -11,13 +11,10 @@ use Rattle.rules.specs.Call.{Call, startOwn, startSpeculation, reportOwn, repor
 use Rattle.rules.specs.Refusals.{refusalOf}
 use Rattle.rules.specs.Values.{valueAt, wroteRefused}
 use Rattle.engine.specs.declared.Batch.{Batch}
-use Rattle.engine.specs.declared.Started.{Started}
-use Rattle.engine.specs.declared.CellAnswer.{CellAnswer}
-use Rattle.engine.specs.declared.JobAnswer.{JobAnswer}
 use Rattle.engine.specs.Ask.{askedCell, askedJob}
 use Rattle.engine.specs.Opening.{opened}
 use Rattle.engine.specs.Perform.{perform}
-use Rattle.theorem.specs.Ledger.{Ledger, Entry, Counted, emptyLedger, snapshotOfLedger, isSome}
+use Rattle.theorem.specs.Ledger.{Ledger, Counted, emptyLedger, snapshotOfLedger, isSome}
 use Rattle.theorem.specs.Replay.{replay, leftFor}
 use Rattle.theorem.specs.Trace.{batchAfter, eventsOf, ledgerAfter}
 

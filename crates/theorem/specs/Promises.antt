@@ -7,13 +7,12 @@ use mathlib.Core.Option.{none, some}
 use mathlib.Core.Path.{_≡_, refl, sym, ap, _∙_}
 use lib.Dec.{leb}
 use lib.IntN.{pos}
-use lib.ListN.{length, replicate}
+use lib.ListN.{replicate}
 use borrow.Author.Tests.{lt-leb}
 use Rattle.laws.specs.Search.{any-absent, if-or, clash}
 use Rattle.laws.specs.Refusal.{Passed, accepted}
 use Rattle.dependence.specs.declared.Job.{Job}
 use Rattle.dependence.specs.Job.{jobAt}
-use Rattle.rules.specs.Values.{valueAt}
 use Rattle.rules.specs.Snapshot.{Snapshot, isOut, isStored, isLive}
 use Rattle.rules.specs.Speculation.{waits, isReady, isInvalid}
 use Rattle.rules.specs.Call.{Call, insert, seal, startOwn, startSpeculation, reportOwn, reportSpeculation, commit}
@@ -26,8 +25,7 @@ use Rattle.engine.specs.Opening.{inserted, sealedWith}
 use Rattle.engine.specs.Steps.{startedOwn, startedSpeculation, reportedOwn, reportedSpeculation, committedBy}
 use Rattle.engine.specs.Perform.{perform}
 use Rattle.theorem.specs.Ledger.{Counted, Entry, Ledger, isSome, isCounted, ownIsOut, guessPhase, snapshotOfLedger}
-use Rattle.theorem.specs.Replay.{replay, leftFor}
-use Rattle.theorem.specs.Demand3.{judged, own-start, own-report, speculation-report, commit-step, Accepted, Demand3}
+use Rattle.theorem.specs.Demand3.{judged, own-start, own-report, speculation-report, commit-step, Accepted}
 use Rattle.theorem.specs.SameRefusal.{same-refusal}
 use Rattle.theorem.specs.Faithful.{Stage, untouched, guess-out, guess-reported, own-out, own-counted, guess-counted, Faithful}
 use Rattle.theorem.specs.Faithful.{stage-committed, stage-steps, faithful-form, same-snapshot}

@@ -14,7 +14,6 @@ use Rattle.rules.specs.Values.{valueAt, presentValues, writeBack}
 use Rattle.rules.specs.Call.{Call, insert, seal, startOwn, startSpeculation, reportOwn, reportSpeculation, commit}
 use Rattle.engine.specs.declared.Batch.{Batch}
 use Rattle.engine.specs.declared.CellAnswer.{CellAnswer}
-use Rattle.engine.specs.declared.JobAnswer.{JobAnswer}
 use Rattle.engine.specs.Ask.{askedCell, askedJob}
 use Rattle.engine.specs.Opening.{opened}
 use Rattle.theorem.specs.Ledger.{Report, Counted, Ledger, emptyLedger, isSome, isCounted, enter}

@@ -1,14 +1,12 @@
 -- A list of calls, performed on the record one after the other, and what it enters into the ledger.
-use Prim.Native.Nat.{ℕ}
 use mathlib.Core.Bool.{Bool, cond}
 use mathlib.Core.List.{List, [], _∷_}
 use lib.Dec.{eqb}
 use lib.IntN.{ℤ}
 use Rattle.rules.specs.Call.{Call}
 use Rattle.engine.specs.declared.Batch.{Batch}
-use Rattle.engine.specs.declared.Started.{Started}
 use Rattle.engine.specs.Perform.{perform}
-use Rattle.theorem.specs.Ledger.{Ledger, emptyLedger, enter}
+use Rattle.theorem.specs.Ledger.{Ledger, enter}
 
 -- What a host sees of a call: its arguments, whether it was accepted, and the values that a start handed out.
 pub record Event : Type 0 where

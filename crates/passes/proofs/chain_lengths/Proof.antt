@@ -1,8 +1,8 @@
 -- `chain_lengths` meets its contract: the pass of specs/ChainPass.antt, a job a turn from the last one back.
 use native.Mathlib.Omega.{arith}
-use Prim.Native.Nat.{ℕ, _≤_, _+_, _-_, suc, min}
+use Prim.Native.Nat.{_≤_, _+_, _-_, suc, min}
 use native.Mathlib.Numerals.{add-one}
-use mathlib.Core.Path.{_≡_, sym, ap, _∙_}
+use mathlib.Core.Path.{_≡_, ap, _∙_}
 use lib.ListN.{length}
 use borrow.Author.Needs.{needs}
 use Rattle.passes.specs.ChainPass.{ChainPass, chain-start, chain-short, chain-step}

@@ -1,9 +1,7 @@
 -- `met_by` meets its contract: the largest of what the four places meet.
-use Prim.Native.Nat.{ℕ, _<_}
 use Rattle.laws.specs.Search.{each-of-four}
 use Rattle.laws.specs.Fold.{max-four}
-use Rattle.dependence.specs.Job.{accessAt}
-use Rattle.passes.specs.Tables.{metAt, met}
+use Rattle.passes.specs.Tables.{met}
 use borrow.Author.Needs.{needs}
 use Rattle.passes.proofs.met_by.Statement.{statement}
 use Rattle.passes.proofs.met_by.Tie as tie

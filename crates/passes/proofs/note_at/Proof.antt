@@ -1,5 +1,5 @@
 -- `note_at` meets its contract.
-use borrow.Author.Tests.{eq-eqb, ne-eqb, le-leb, lt-leb}
+use borrow.Author.Tests.{le-leb, lt-leb}
 use borrow.Author.Needs.{needs}
 use Rattle.passes.proofs.note_at.Statement.{statement}
 use Rattle.passes.proofs.note_at.Tie as tie

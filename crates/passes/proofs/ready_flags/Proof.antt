@@ -1,8 +1,7 @@
 -- `ready_flags` meets its contract: the pass of specs/ReadyPass.antt, a job a turn from the first one on.
 use native.Mathlib.Omega.{arith}
-use Prim.Native.Nat.{ℕ, _≤_, _-_, min}
-use mathlib.Core.Path.{_≡_, sym, ap, _∙_}
-use lib.ListN.{length}
+use Prim.Native.Nat.{_≤_, _-_}
+use mathlib.Core.Path.{_≡_, _∙_}
 use Rattle.laws.specs.Fold.{column-min}
 use Rattle.passes.specs.ReadyPass.{ReadyPass, ready-start, ready-step}
 use Rattle.passes.proofs.ready_flags.Statement.{statement}

@@ -1,7 +1,7 @@
 -- `Batch::commit_refusal` meets its contract: what every step asks, and then its own tests.
 use native.Mathlib.Omega.{arith}
-use mathlib.Core.Path.{_≡_, sym, _∙_}
-use borrow.Author.Tests.{eq-eqb, ne-eqb}
+use mathlib.Core.Path.{sym, _∙_}
+use borrow.Author.Tests.{ne-eqb}
 use Rattle.engine.specs.StepLaws.{step-early, step-place, step-then, step-few, step-invalid, ready-is}
 use borrow.Author.Needs.{needs}
 use Rattle.engine.proofs.Batch.commit_refusal.Statement.{statement}

@@ -1,6 +1,6 @@
 -- `Batch::insert` meets its contract.
 use mathlib.Core.Path.{sym, _∙_}
-use borrow.Author.Tests.{eq-eqb, ne-eqb}
+use borrow.Author.Tests.{ne-eqb}
 use Rattle.engine.specs.Opening.{inserted}
 use Rattle.engine.specs.OpeningLaws.{insert-place}
 use borrow.Author.Needs.{needs}

@@ -1,8 +1,8 @@
 -- `Batch::insert_refusal` meets its contract.
-use Rattle.laws.specs.Refusal.{first, hit, skip, none, first-of}
+use Rattle.laws.specs.Refusal.{first, hit, skip, first-of}
 use mathlib.Core.Bool.{not}
 use mathlib.Core.Path.{ap}
-use borrow.Author.Tests.{lt-ltb, le-ltb, le-leb, lt-leb, eq-eqb, ne-eqb}
+use borrow.Author.Tests.{le-leb, lt-leb, eq-eqb, ne-eqb}
 use Rattle.admission.specs.Admission.{jobRefusal}
 use borrow.Author.Needs.{needs}
 use Rattle.engine.proofs.Batch.insert_refusal.Statement.{statement}

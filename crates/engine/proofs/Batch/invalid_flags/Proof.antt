@@ -1,7 +1,7 @@
 -- `Batch::invalid_flags` meets its contract: the pass of specs/InvalidPass.antt, a job a turn.
 use native.Mathlib.Omega.{arith}
 use Prim.Native.Nat.{_≤_, _-_}
-use mathlib.Core.Path.{_≡_, refl, sym, ap, _∙_}
+use mathlib.Core.Path.{_≡_, refl, ap, _∙_}
 use lib.ListN.{length}
 use borrow.Author.Needs.{needs}
 use Rattle.laws.specs.Fold.{length-column}

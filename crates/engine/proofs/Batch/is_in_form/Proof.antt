@@ -3,7 +3,7 @@ use native.Mathlib.Omega.{arith}
 use borrow.Author.Needs.{needs}
 use Prim.Native.Nat.{_≤_, _-_}
 use mathlib.Core.Bool.{false}
-use mathlib.Core.Path.{_≡_, refl, sym, ap, _∙_}
+use mathlib.Core.Path.{_≡_, refl, sym, _∙_}
 use Rattle.laws.specs.Search.{anyBelow, any-none, any-found, passed, missed}
 use Rattle.engine.specs.Form.{jobOut, inForm}
 use Rattle.engine.specs.FormLaws.{counts-in}

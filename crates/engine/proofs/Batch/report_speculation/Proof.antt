@@ -1,6 +1,6 @@
 -- `Batch::report_speculation` meets its contract.
-use mathlib.Core.Path.{_≡_, sym, _∙_}
-use borrow.Author.Tests.{eq-eqb, ne-eqb}
+use mathlib.Core.Path.{sym, _∙_}
+use borrow.Author.Tests.{ne-eqb}
 use Rattle.engine.specs.Steps.{reportedSpeculation}
 use Rattle.engine.specs.StepLaws.{allowed-place}
 use borrow.Author.Needs.{needs}

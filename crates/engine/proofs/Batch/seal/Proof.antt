@@ -1,5 +1,5 @@
 -- `Batch::seal` meets its contract.
-use borrow.Author.Tests.{eq-eqb, ne-eqb}
+use borrow.Author.Tests.{ne-eqb}
 use Rattle.engine.specs.Opening.{sealedWith, withSealed}
 use borrow.Author.Needs.{needs}
 use Rattle.engine.proofs.Batch.seal.Statement.{statement}

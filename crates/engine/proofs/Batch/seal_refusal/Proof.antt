@@ -1,8 +1,8 @@
 -- `Batch::seal_refusal` meets its contract.
-use Rattle.laws.specs.Refusal.{first, hit, skip, none, first-of}
+use Rattle.laws.specs.Refusal.{first, hit, skip, none}
 use mathlib.Core.Bool.{not}
 use mathlib.Core.Path.{ap}
-use borrow.Author.Tests.{lt-ltb, le-ltb, le-leb, lt-leb, eq-eqb, ne-eqb}
+use borrow.Author.Tests.{lt-ltb, le-ltb, eq-eqb, ne-eqb}
 use borrow.Author.Needs.{needs}
 use Rattle.engine.proofs.Batch.seal_refusal.Statement.{statement}
 use Rattle.engine.proofs.Batch.seal_refusal.Tie as tie

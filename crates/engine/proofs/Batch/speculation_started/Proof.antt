@@ -1,6 +1,5 @@
 -- `Batch::speculation_started` meets its contract.
 use native.Mathlib.Omega.{arith}
-use lib.IntN.{ℤ}
 use Rattle.laws.specs.Signed.{back}
 use Rattle.engine.specs.SourceLimit.{source-limit}
 use borrow.Author.Needs.{needs}

@@ -1,7 +1,7 @@
 -- `Batch::start_own_refusal` meets its contract: what every step asks, and then its own tests.
 use native.Mathlib.Omega.{arith}
-use mathlib.Core.Path.{_≡_, sym, _∙_}
-use borrow.Author.Tests.{eq-eqb, ne-eqb}
+use mathlib.Core.Path.{sym, _∙_}
+use borrow.Author.Tests.{ne-eqb}
 use Rattle.engine.specs.StepLaws.{step-early, step-few, step-place, step-then, step-invalid, ready-is}
 use borrow.Author.Needs.{needs}
 use Rattle.engine.proofs.Batch.start_own_refusal.Statement.{statement}

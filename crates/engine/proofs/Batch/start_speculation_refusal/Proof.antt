@@ -1,7 +1,7 @@
 -- `Batch::start_speculation_refusal` meets its contract: what every step asks, and then its own tests.
 use native.Mathlib.Omega.{arith}
 use mathlib.Core.Path.{_≡_, sym, _∙_}
-use borrow.Author.Tests.{eq-eqb, ne-eqb}
+use borrow.Author.Tests.{ne-eqb}
 use Rattle.engine.specs.StepLaws.{step-early, step-place, step-then, step-held, step-few, ready-is}
 use lib.ListN.{length}
 use Rattle.laws.specs.Fold.{length-column}

@@ -62,9 +62,14 @@ returns-6 : tie.Need-returns-6
 unfolding stepped
 returns-6 c =
     let r = c .before .match .rest in
-    rw
-    (ne-eqb _ _ (r .0 .0 .0 .0 .1), ne-eqb _ _ (r .0 .0 .0 .1), ne-eqb _ _ (r .0 .0 .1), ne-eqb _ _ (r .0 .1), ne-eqb _ _ (r .1),
-    c .no-such-step .ensures)
+    rw (
+      ne-eqb _ _ (r .0 .0 .0 .0 .1),
+      ne-eqb _ _ (r .0 .0 .0 .1),
+      ne-eqb _ _ (r .0 .0 .1),
+      ne-eqb _ _ (r .0 .1),
+      ne-eqb _ _ (r .1),
+      c .no-such-step .ensures,
+    )
 
 pub step-spec : {M : Type 1} → statement M
 step-spec =

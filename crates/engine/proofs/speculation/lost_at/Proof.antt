@@ -1,6 +1,6 @@
 -- `lost_at` meets its contract.
 use native.Mathlib.Omega.{arith}
-use borrow.Author.Tests.{le-leb, lt-leb, eq-eqb, ne-eqb}
+use borrow.Author.Tests.{eq-eqb, ne-eqb}
 use Prim.Native.Nat.{_≤_, _-_}
 use mathlib.Core.Bool.{false}
 use lib.ListN.{length, getD, List·getD-eq-default}
