@@ -13,7 +13,7 @@ use Rattle.dependence.specs.declared.Job.{Job}
 use Rattle.dependence.specs.Job.{inUse, accessAt, jobAt}
 use Rattle.admission.specs.AdmissionLaws.{admitted-distinct}
 use Rattle.rules.specs.Values.{four, valueAt, valueFor, presentAt, storedValues}
-use Rattle.rules.specs.Walk.{accessIs, maybeWrites, bypassAt}
+use Rattle.rules.specs.Walk.{accessIs, writes as writesCell, maybeWrites, sourceBelow as sourceNumber, bypassAt}
 use Rattle.rules.specs.Snapshot.{isStored}
 use Rattle.rules.specs.Speculation.{sourceNow, bypassedNow, isInvalid, unusable, sourceMissing}
 use Rattle.runs.specs.RunLaws.{DistinctCells, stored-value}
