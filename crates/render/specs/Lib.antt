@@ -1,0 +1,5 @@
+pub mod Put
+pub mod Text
+pub mod Digits
+pub mod Length
+pub mod Examples

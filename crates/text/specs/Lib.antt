@@ -1,0 +1,4 @@
+pub mod Pieces
+pub mod PieceLaws
+pub mod SameText
+pub mod Examples
