@@ -13,3 +13,6 @@ pub mod SourceLimit
 pub mod SourceMissing
 pub mod Speculation
 pub mod InvalidPass
+pub mod Chooser
+pub mod ChooserPass
+pub mod ChooserLaws

@@ -5,6 +5,7 @@ use jobset::JobSet;
 
 mod ask;
 mod by_number;
+mod chooser;
 mod form;
 mod opening;
 mod speculation;
@@ -80,4 +81,12 @@ pub struct BatchAnswer {
     pub sealed: u8,
     pub speculating: u8,
     pub finished: bool,
+}
+
+/// What the chooser answers: the step, the job and the length of its chain, or the number of the refusal and zeros.
+pub struct Choice {
+    pub refusal: u8,
+    pub step: u8,
+    pub job: u8,
+    pub chain: u8,
 }

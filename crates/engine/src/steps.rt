@@ -21,7 +21,7 @@ use dependence::Job;
 use jobset::JobSet;
 
 /// Whether one of the two holds.
-fn either(a: bool, b: bool) -> bool
+pub(crate) fn either(a: bool, b: bool) -> bool
     ensures { λ r. ⌜ r ≡ (a || b) ⌝ }
 {
     if a {
@@ -31,7 +31,7 @@ fn either(a: bool, b: bool) -> bool
 }
 
 /// Whether both hold.
-fn both(a: bool, b: bool) -> bool
+pub(crate) fn both(a: bool, b: bool) -> bool
     ensures { λ r. ⌜ r ≡ (a && b) ⌝ }
 {
     if a {
@@ -41,7 +41,7 @@ fn both(a: bool, b: bool) -> bool
 }
 
 /// The number of the first of the tests that holds, or 0.
-fn first_of_two(a: bool, first: u8, b: bool, second: u8) -> u8
+pub(crate) fn first_of_two(a: bool, first: u8, b: bool, second: u8) -> u8
     ensures { λ r. ⌜ r ≡ firstOf (when a first ∷ when b second ∷ []) ⌝ }
 {
     if a {
@@ -54,7 +54,7 @@ fn first_of_two(a: bool, first: u8, b: bool, second: u8) -> u8
 }
 
 /// The same for three tests.
-fn first_of_three(a: bool, first: u8, b: bool, second: u8, c: bool, third: u8) -> u8
+pub(crate) fn first_of_three(a: bool, first: u8, b: bool, second: u8, c: bool, third: u8) -> u8
     ensures { λ r. ⌜ r ≡ firstOf (when a first ∷ when b second ∷ when c third ∷ []) ⌝ }
 {
     if a {
@@ -64,7 +64,7 @@ fn first_of_three(a: bool, first: u8, b: bool, second: u8, c: bool, third: u8) -
 }
 
 /// The same for four tests.
-fn first_of_four(
+pub(crate) fn first_of_four(
     a: bool,
     first: u8,
     b: bool,

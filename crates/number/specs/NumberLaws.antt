@@ -27,7 +27,7 @@ use Rattle.number.specs.Numbers.{
   naturalUpTo,
   countOf,
   negativeOf,
-  positiveOf,
+  unsignedOf,
   signedOf,
 }
 
@@ -99,7 +99,7 @@ digits-over most value bytes h = rw (lt-leb (valueAfter value bytes) most (omega
 
 -- A field with a first byte.
 pub signed-first : (field : List ℕ) → (length field ≡ 0 → ⊥)
-    → signedOf field ≡ cond (eqb (getD field 0 0) minusSign) (negativeOf (drop 1 field)) (positiveOf field)
+    → signedOf field ≡ cond (eqb (getD field 0 0) minusSign) (negativeOf (drop 1 field)) (unsignedOf field)
 unfolding signedOf
 signed-first [] h = absurd (h refl)
 signed-first (first ∷ rest) h = refl

@@ -33,6 +33,7 @@ smallestNegated = 2147483648
 abbrev pub isDigit : ℕ → Bool
 isDigit byte = leb zeroDigit byte && leb byte nineDigit
 
+-- Digits and nothing else.
 unfoldable pub allDigits : List ℕ → Bool
 allDigits [] = true
 allDigits (byte ∷ rest) = isDigit byte && allDigits rest
@@ -63,7 +64,7 @@ digitsUpTo most value bytes =
 unfoldable pub naturalUpTo : ℕ → List ℕ → Natural
 naturalUpTo most field = cond (inBaseTen field && leb (valueOf field) most) (natural.Is (valueOf field)) natural.Not
 
--- The number in a field that may have no sign.
+-- The number in a field in which no sign is allowed, a count.
 abbrev pub countOf : List ℕ → Natural
 countOf field = naturalUpTo largest field
 
@@ -77,14 +78,15 @@ abbrev pub unsigned : Natural → Number
 unsigned natural.Not = number.Not
 unsigned (natural.Is value) = number.Is (pos value)
 
--- What the digits after a minus sign, and digits without one, give.
+-- The number whose digits stand after a minus sign.
 unfoldable pub negativeOf : List ℕ → Number
 negativeOf digits = negated (naturalUpTo smallestNegated digits)
 
-unfoldable pub positiveOf : List ℕ → Number
-positiveOf digits = unsigned (naturalUpTo largest digits)
+-- The number whose digits stand alone.
+unfoldable pub unsignedOf : List ℕ → Number
+unsignedOf digits = unsigned (naturalUpTo largest digits)
 
--- The number in a field that may have a minus sign: "a height or p".
+-- The number in a field in which a minus sign is allowed: "a height or p".
 unfoldable pub signedOf : List ℕ → Number
 signedOf [] = number.Not
-signedOf (first ∷ rest) = cond (eqb first minusSign) (negativeOf rest) (positiveOf (first ∷ rest))
+signedOf (first ∷ rest) = cond (eqb first minusSign) (negativeOf rest) (unsignedOf (first ∷ rest))

@@ -2,7 +2,7 @@
 
 ghost use Prim.Native.Nat.{_≤_};
 ghost use mathlib.Core.Path.{_≡_};
-ghost use Rattle.number.specs.Numbers.{hasLeadingZero, digitsUpTo, naturalUpTo, negativeOf, positiveOf, countOf, signedOf};
+ghost use Rattle.number.specs.Numbers.{hasLeadingZero, digitsUpTo, naturalUpTo, negativeOf, unsignedOf, countOf, signedOf};
 
 /// The largest number of 32 signed bits.
 const LARGEST: u64 = 2147483647;
@@ -87,8 +87,8 @@ fn negative_in(digits: &[u8]) -> Number
 }
 
 /// The number with these digits and no sign.
-fn positive_in(digits: &[u8]) -> Number
-    ensures { λ r. ⌜ r ≡ positiveOf (now (digits .entry)) ⌝ }
+fn unsigned_in(digits: &[u8]) -> Number
+    ensures { λ r. ⌜ r ≡ unsignedOf (now (digits .entry)) ⌝ }
 {
     let magnitude = natural_up_to(digits, LARGEST);
     let Natural::Is(value) = magnitude else {
@@ -97,7 +97,7 @@ fn positive_in(digits: &[u8]) -> Number
     Number::Is(value as i32)
 }
 
-/// The number in a field that may have a minus sign: a height or p.
+/// The number in a field in which a minus sign is allowed: a height or p.
 pub fn signed_in(field: &[u8]) -> Number
     ensures { λ r. ⌜ r ≡ signedOf (now (field .entry)) ⌝ }
 {
@@ -107,10 +107,10 @@ pub fn signed_in(field: &[u8]) -> Number
     if field[0] == b'-' {
         return negative_in(&field[1..]);
     }
-    positive_in(field)
+    unsigned_in(field)
 }
 
-/// The number in a field that may have no sign: any other than a height or p.
+/// The number in a field in which no sign is allowed: any other than a height or p.
 pub fn count_in(field: &[u8]) -> Natural
     ensures { λ r. ⌜ r ≡ countOf (now (field .entry)) ⌝ }
 {

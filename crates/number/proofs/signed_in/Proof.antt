@@ -47,12 +47,12 @@ returns-2 c =
     )
 
 -- nothing is asked of the field
-positive-in-requires : tie.Need-positive-in-requires
-positive-in-requires c κs = search needs
+unsigned-in-requires : tie.Need-unsigned-in-requires
+unsigned-in-requires c κs = search needs
 
 -- no minus sign
 returns-3 : tie.Need-returns-3
-returns-3 c = rw (c .positive-in .ensures, signed-first _ (c .before .before .before .if1 .left), ne-eqb _ _ (c .before .if2 .left))
+returns-3 c = rw (c .unsigned-in .ensures, signed-first _ (c .before .before .before .if1 .left), ne-eqb _ _ (c .before .if2 .left))
 
 pub signed-in-spec : {M : Type 1} → statement M
 signed-in-spec =
@@ -65,5 +65,5 @@ signed-in-spec =
     part-negative-in-end
     negative-in-requires
     returns-2
-    positive-in-requires
+    unsigned-in-requires
     returns-3)

@@ -1,0 +1,126 @@
+-- `Batch::pick_for` meets its contract: the pick among the jobs before j, a job a turn.
+use native.Mathlib.Omega.{arith}
+use borrow.Author.Needs.{needs}
+use Prim.Native.Nat.{_≤_, _<_, _-_}
+use mathlib.Core.Logic.{⊎-elim}
+use mathlib.Core.Path.{_≡_, refl, ap, _∙_}
+use lib.ListN.{length}
+use Rattle.laws.specs.Fold.{length-column}
+use Rattle.engine.specs.SourceMissing.{missing-is}
+use Rattle.engine.specs.ChooserPass.{stepCall, pickBefore, pick-none, pick-step, step-is}
+use Rattle.engine.proofs.Batch.pick_for.Statement.{statement}
+use Rattle.engine.proofs.Batch.pick_for.Tie as tie
+
+-- the best of the jobs before j
+abbrev Inv-loop : tie.InvT-loop
+Inv-loop step self ready invalid chains n on jobs committed phases pick₀ j₀ pick j =
+    (j ≤ n) × (n ≤ 128) × (n ≡ self .«job_count») × (pick ≡ pickBefore self (stepCall step) j)
+
+abbrev μ-loop : tie.MeasureT-loop
+μ-loop step self ready invalid chains n on jobs committed phases pick₀ j₀ pick j = n - j
+
+cast-n : tie.Need-cast-n Inv-loop μ-loop
+cast-n c = omega arith
+
+-- among no jobs
+loop-holds : tie.Need-loop-holds Inv-loop μ-loop
+loop-holds c =
+    let s = c .before .before .before in
+    (omega arith, s .pre .few, refl, pick-none (s .args .t1) (stepCall (s .args .step)))
+
+array-read-how : tie.Need-array-read-how Inv-loop μ-loop
+array-read-how c = omega arith
+
+element-copy-out-running : tie.Need-element-copy-out-running Inv-loop μ-loop
+element-copy-out-running c = omega arith
+
+array-read-phase : tie.Need-array-read-phase Inv-loop μ-loop
+array-read-phase c = omega arith
+
+array-read-is-ready : tie.Need-array-read-is-ready Inv-loop μ-loop
+array-read-is-ready c = omega arith
+
+array-read-is-invalid : tie.Need-array-read-is-invalid Inv-loop μ-loop
+array-read-is-invalid c = omega arith
+
+array-read-chain : tie.Need-array-read-chain Inv-loop μ-loop
+array-read-chain c = omega arith
+
+sources-requires : tie.Need-sources-requires Inv-loop μ-loop
+sources-requires c κs = search needs
+
+-- both columns have 128 places
+unusable-any-requires : tie.Need-unusable-any-requires Inv-loop μ-loop
+unusable-any-requires c κs =
+    let s = c .before .before .before .before .before .before .before .before .before .before in
+    let long : length (s .args .t1 .phase) ≡ 128 = search needs in
+    (long, ap length (s .pre .invalid-are) ∙ length-column 128 _ _ _)
+
+step-passes-requires : tie.Need-step-passes-requires Inv-loop μ-loop
+step-passes-requires c κs = search needs
+
+cast-better : tie.Need-cast-better Inv-loop μ-loop
+cast-better c = omega arith
+
+better-requires : tie.Need-better-requires Inv-loop μ-loop
+better-requires c κs = search needs
+
+add-j : tie.Need-add-j Inv-loop μ-loop
+add-j c = omega arith
+
+loop-less : tie.Need-loop-less Inv-loop μ-loop
+loop-less c = omega arith
+
+-- the turn of job j; step 1 has walked back from it
+loop-again : tie.Need-loop-again Inv-loop μ-loop
+loop-again c =
+    let m = c .before .before in
+    let l = m .before .before .before .loop in
+    let s = m .before .before .before .before .before .before .before in
+    let a = s .args in
+    let held : l .j < a .t1 .«job_count» = omega arith in (
+      omega arith,
+      l .inv .1,
+      l .inv .2,
+      pick-step (a .t1) (a .t3) (a .t4) (a .t5) (s .pre) (l .j) held (stepCall (a .step)) (l .pick) (c .better .result)
+          (c .before .step-passes .result) (l .inv .3)
+          (step-is (a .t1) (a .t3) (a .t4) (a .t5) (s .pre) (l .j) held (a .step)
+          (λ one.
+          ⊎-elim
+          (λ w. w .5 ∙ w .4 .ensures ∙ missing-is (a .t1) (l .j) (w .1 .result) (a .t4) held (s .pre .few) (w .1 .ensures) (s .pre .invalid-are))
+          (λ w. absurd (w .0 .left one))
+          (m .if1 .came))
+          (c .before .step-passes .ensures))
+          (c .better .ensures),
+    )
+
+-- all jobs
+returns : tie.Need-returns Inv-loop μ-loop
+returns c =
+    let l = c .before .loop in
+    let e : l .j ≡ c .before .before .before .before .before .args .t1 .«job_count» = omega arith in
+    rw (l .inv .3, e)
+
+pub pick-for-spec : {M : Type 1} → statement M
+pick-for-spec =
+    tie.close
+    (tie.spec
+    Inv-loop
+    μ-loop
+    cast-n
+    loop-holds
+    array-read-how
+    element-copy-out-running
+    array-read-phase
+    array-read-is-ready
+    array-read-is-invalid
+    array-read-chain
+    sources-requires
+    unusable-any-requires
+    step-passes-requires
+    cast-better
+    better-requires
+    add-j
+    loop-less
+    loop-again
+    returns)

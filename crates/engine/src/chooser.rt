@@ -1,0 +1,169 @@
+//! The chooser: which step to take next, and on which job.
+
+ghost use mathlib.Core.Path.{_≡_};
+ghost use Rattle.engine.specs.Chooser.{better, pickFor, refused, named, chosen};
+ghost use Rattle.engine.specs.ChooserPass.{Surveyed, commitPasses, speculationPasses, ownPasses, stepPasses, stepCall};
+use crate::Batch;
+use crate::Choice;
+use crate::speculation::is_live;
+use crate::speculation::unusable_any;
+use crate::steps::both;
+use crate::steps::either;
+use crate::steps::first_of_four;
+use crate::steps::first_of_three;
+
+/// A job and the length of its chain; length 0 where no job is picked.
+struct Pick {
+    job: u8,
+    chain: u8,
+}
+
+/// The answer where nothing is chosen.
+fn refused(refusal: u8) -> Choice
+    ensures { λ r. ⌜ r ≡ refused refusal ⌝ }
+{
+    Choice {
+        refusal,
+        step: 0,
+        job: 0,
+        chain: 0,
+    }
+}
+
+/// The answer that names the step on the job picked.
+fn named(step: u8, pick: Pick) -> Choice
+    ensures { λ r. ⌜ r ≡ named step pick ⌝ }
+{
+    Choice {
+        refusal: 0,
+        step,
+        job: pick.job,
+        chain: pick.chain,
+    }
+}
+
+/// The pick, or the job if it is allowed and its chain is longer: the earlier of two equals stays.
+fn better(pick: Pick, allowed: bool, job: u8, chain: u8) -> Pick
+    ensures { λ r. ⌜ r ≡ better pick allowed job chain ⌝ }
+{
+    if allowed {
+        if pick.chain < chain {
+            return Pick { job, chain };
+        }
+    }
+    pick
+}
+
+/// Whether a job held may be committed by its speculative run.
+fn commit_passes(how: u8, phase: u8, ready: bool, invalid: bool) -> bool
+    ensures { λ r. ⌜ r ≡ commitPasses how phase ready invalid ⌝ }
+{
+    let stored = phase == 2;
+    let wrong = either(how != 0, !stored);
+    first_of_three(wrong, 13, !ready, 15, invalid, 18) == 0
+}
+
+/// Whether the own run of a job held may be started.
+fn own_passes(how: u8, running: u8, phase: u8, ready: bool, invalid: bool) -> bool
+    ensures { λ r. ⌜ r ≡ ownPasses how running phase ready invalid ⌝ }
+{
+    let busy = either(how != 0, running != 0);
+    let live = is_live(phase);
+    let valid = both(live, !invalid);
+    first_of_three(busy, 13, !ready, 15, valid, 17) == 0
+}
+
+/// Whether the speculative run of a job held may be started, where speculation is on.
+fn speculation_passes(on: bool, how: u8, running: u8, phase: u8, ready: bool, missing: bool) -> bool
+    ensures { λ r. ⌜ r ≡ speculationPasses on how running phase ready missing ⌝ }
+{
+    let started = either(running != 0, phase != 0);
+    let busy = either(how != 0, started);
+    first_of_four(!on, 12, busy, 13, ready, 14, missing, 15) == 0
+}
+
+/// Whether the step may be taken on a job held: 4, 1, and 0 for any other number.
+fn step_passes(
+    step: u8,
+    on: bool,
+    how: u8,
+    running: u8,
+    phase: u8,
+    ready: bool,
+    invalid: bool,
+    missing: bool,
+) -> bool
+    ensures { λ r. ⌜ r ≡ stepPasses step on how running phase ready invalid missing ⌝ }
+{
+    match step {
+        4 => commit_passes(how, phase, ready, invalid),
+        1 => speculation_passes(on, how, running, phase, ready, missing),
+        _ => own_passes(how, running, phase, ready, invalid),
+    }
+}
+
+impl Batch {
+    /// The job to take the step on. Only step 1 asks where the values would come from, a walk back for each job.
+    fn pick_for(self, step: u8, ready: [bool; 128], invalid: [bool; 128], chains: [u8; 128]) -> Pick
+        requires { ⌜ Surveyed self ready invalid chains ⌝ }
+        ensures { λ r. ⌜ r ≡ pickFor self (stepCall step) ⌝ }
+    {
+        let n = self.job_count as usize;
+        let on = self.speculating != 0;
+        let jobs = self.jobs;
+        let committed = self.committed;
+        let phases = self.phase;
+        let mut pick = Pick { job: 0, chain: 0 };
+        let mut j: usize = 0;
+        while j < n {
+            let how = committed[j];
+            let running = self.running[j];
+            let phase = phases[j];
+            let is_ready = ready[j];
+            let is_invalid = invalid[j];
+            let chain = chains[j];
+            let mut missing = false;
+            if step == 1 {
+                let sources = walk::sources(jobs, committed, j);
+                missing = unusable_any(sources, &phases, &invalid);
+            }
+            let allowed = step_passes(step, on, how, running, phase, is_ready, is_invalid, missing);
+            let next = better(pick, allowed, j as u8, chain);
+            pick = next;
+            j += 1;
+        }
+        pick
+    }
+
+    /// Names an allowed step among 4, 0 and 1, in that order, on the job with the longest chain, the lowest of equals.
+    /// Refused with 10, with 19 where there is none, or with 32.
+    pub fn choose(self) -> Choice
+        ensures { λ r. ⌜ r ≡ chosen self ⌝ }
+    {
+        if self.is_in_form() {
+            if self.sealed == 0 {
+                return refused(10);
+            }
+            let n = self.job_count as usize;
+            let jobs = self.jobs;
+            let committed = self.committed;
+            let ready = passes::ready_flags(jobs, committed, n);
+            let invalid = self.invalid_flags();
+            let chains = passes::chain_lengths(jobs, n);
+            let commit = self.pick_for(4, ready, invalid, chains);
+            if commit.chain != 0 {
+                return named(4, commit);
+            }
+            let own = self.pick_for(0, ready, invalid, chains);
+            if own.chain != 0 {
+                return named(0, own);
+            }
+            let speculation = self.pick_for(1, ready, invalid, chains);
+            if speculation.chain != 0 {
+                return named(1, speculation);
+            }
+            return refused(19);
+        }
+        refused(32)
+    }
+}
