@@ -1,0 +1,667 @@
+//! The engine of document 01: cells, jobs, batch, steps 0 to 4, the chooser,
+//! asking and copying out.
+//!
+//! Every operation gives a result or a refusal number. "A refusal changes
+//! nothing. If several apply, the lowest number is given": so the checks of an
+//! operation stand in the order of their numbers, and all of them stand before
+//! the first change. Refusal 32 is about a batch record in a caller's hands; here
+//! the fields are closed to callers, so no record is ever out of form.
+
+use std::collections::BTreeSet;
+
+use crate::kinds;
+
+/// "each a cell and a mode: 0 read, 1 write, 2 maybe-write"
+pub const READ: u32 = 0;
+pub const WRITE: u32 = 1;
+pub const MAYBE: u32 = 2;
+
+pub const START_OWN: u32 = 0;
+pub const START_GUESS: u32 = 1;
+pub const REPORT_OWN: u32 = 2;
+pub const REPORT_GUESS: u32 = 3;
+pub const SETTLE: u32 = 4;
+
+pub const MOST_CELLS: usize = 64;
+pub const MOST_JOBS: usize = 128;
+
+#[derive(Clone, Copy, Debug, PartialEq, Eq)]
+pub struct Access {
+    pub cell: u32,
+    pub mode: u32,
+}
+
+#[derive(Clone, Debug, PartialEq, Eq)]
+pub struct Job {
+    pub kind: u32,
+    pub p: i32,
+    pub accesses: Vec<Access>,
+}
+
+/// "A report has such values and a mark: 1 if the maybe-write cells were
+/// written, else 0."
+#[derive(Clone, Copy, Debug, PartialEq, Eq)]
+pub struct Report {
+    pub values: [i32; 4],
+    pub mark: u32,
+}
+
+/// How far a job's own run has come.
+#[derive(Clone, Copy, Debug, PartialEq, Eq)]
+pub enum Own {
+    NotStarted,
+    /// The run is out; it was handed these values.
+    Out([i32; 4]),
+    Reported,
+}
+
+/// How far a job's guess has come.
+#[derive(Clone, Copy, Debug, PartialEq, Eq)]
+pub enum GuessState {
+    /// The run is out.
+    Out,
+    /// The report is in stored state.
+    Stored(Report),
+    ThrownAway,
+    /// Step 4 settled the job by this guess.
+    Kept,
+}
+
+#[derive(Clone, Debug, PartialEq, Eq)]
+pub struct Guess {
+    pub handed: [i32; 4],
+    /// The maybe-writers this guess looked past.
+    pub looked_past: BTreeSet<usize>,
+    /// The writers from whose guesses this guess took a value.
+    pub taken_from: BTreeSet<usize>,
+    pub state: GuessState,
+}
+
+/// "How: 0 unsettled, 1 own run, 2 guess."
+#[derive(Clone, Copy, Debug, PartialEq, Eq)]
+pub enum Settled {
+    No,
+    ByOwnRun { mark: u32 },
+    ByGuess { mark: u32 },
+}
+
+#[derive(Clone, Debug, PartialEq, Eq)]
+struct Entry {
+    job: Job,
+    own: Own,
+    /// None until a guess is started; "once per job".
+    guess: Option<Guess>,
+    settled: Settled,
+}
+
+#[derive(Clone, Debug, PartialEq, Eq)]
+pub struct Batch {
+    cells: Vec<i32>,
+    jobs: Vec<Entry>,
+    /// None before sealing, then whether guessing is on.
+    sealed: Option<bool>,
+}
+
+/// What the chooser names.
+#[derive(Clone, Copy, Debug, PartialEq, Eq)]
+pub struct Choice {
+    pub step: u32,
+    pub job: u32,
+    /// The length of the job's chain, "the job itself counted".
+    pub chain: u32,
+}
+
+impl Job {
+    /// The place of this cell among the job's accesses, and its mode there.
+    fn access_to(&self, cell: u32) -> Option<(usize, u32)> {
+        for (place, access) in self.accesses.iter().enumerate() {
+            if access.cell == cell {
+                return Some((place, access.mode));
+            }
+        }
+        None
+    }
+
+    fn has_maybe_write(&self) -> bool {
+        self.accesses.iter().any(|access| access.mode == MAYBE)
+    }
+
+    /// Whether a report with this mark writes the cell of this access.
+    fn writes(access: &Access, mark: u32) -> bool {
+        access.mode == WRITE || (access.mode == MAYBE && mark == 1)
+    }
+}
+
+/// "Two jobs conflict if they share a cell and at least one access to it is not
+/// a read."
+pub fn conflict(one: &Job, other: &Job) -> bool {
+    one.accesses.iter().any(|access| match other.access_to(access.cell) {
+        Some((_, mode)) => access.mode != READ || mode != READ,
+        None => false,
+    })
+}
+
+// ---------------------------------------------------------------------------
+// Opening, inserting, sealing
+
+impl Batch {
+    pub fn open(heights: &[i32]) -> Result<Batch, u32> {
+        // "1: cell count not 1 to 64."
+        if heights.is_empty() || heights.len() > MOST_CELLS {
+            return Err(1);
+        }
+        Ok(Batch { cells: heights.to_vec(), jobs: Vec::new(), sealed: None })
+    }
+
+    pub fn insert(&mut self, kind: u32, p: i32, accesses: &[Access]) -> Result<(), u32> {
+        // "2: insert or seal after sealing."
+        if self.sealed.is_some() {
+            return Err(2);
+        }
+        // "3: 128 jobs are held."
+        if self.jobs.len() >= MOST_JOBS {
+            return Err(3);
+        }
+        // "4: access count not 1 to 4."
+        if accesses.is_empty() || accesses.len() > 4 {
+            return Err(4);
+        }
+        // "5: cell number not below the cell count."
+        if accesses.iter().any(|access| access.cell as usize >= self.cells.len()) {
+            return Err(5);
+        }
+        // "6: mode not 0 to 2."
+        if accesses.iter().any(|access| access.mode > MAYBE) {
+            return Err(6);
+        }
+        // "7: a cell twice in a job."
+        for (place, access) in accesses.iter().enumerate() {
+            if accesses[..place].iter().any(|before| before.cell == access.cell) {
+                return Err(7);
+            }
+        }
+        // "8: kind not 0 to 6, or modes not those of the kind"
+        if kind > 6 {
+            return Err(8);
+        }
+        if let Some(wanted) = kinds::modes(kind) {
+            let given: Vec<u32> = accesses.iter().map(|access| access.mode).collect();
+            if given != wanted {
+                return Err(8);
+            }
+        }
+        self.jobs.push(Entry {
+            job: Job { kind, p, accesses: accesses.to_vec() },
+            own: Own::NotStarted,
+            guess: None,
+            settled: Settled::No,
+        });
+        Ok(())
+    }
+
+    /// "Sealing fixes the list and says guessing off (0) or on (1)."
+    pub fn seal(&mut self, guess: u32) -> Result<(), u32> {
+        // "2: insert or seal after sealing."
+        if self.sealed.is_some() {
+            return Err(2);
+        }
+        // "9: guess switch not 0 or 1."
+        if guess > 1 {
+            return Err(9);
+        }
+        self.sealed = Some(guess == 1);
+        Ok(())
+    }
+}
+
+// ---------------------------------------------------------------------------
+// The rules between jobs
+
+impl Batch {
+    fn is_settled(&self, job: usize) -> bool {
+        self.jobs[job].settled != Settled::No
+    }
+
+    fn mark(&self, job: usize) -> u32 {
+        match self.jobs[job].settled {
+            Settled::No => 0,
+            Settled::ByOwnRun { mark } | Settled::ByGuess { mark } => mark,
+        }
+    }
+
+    /// "A job is ready when each earlier conflicting job is settled."
+    fn is_ready(&self, job: usize) -> bool {
+        (0..job).all(|earlier| {
+            self.is_settled(earlier) || !conflict(&self.jobs[earlier].job, &self.jobs[job].job)
+        })
+    }
+
+    /// "A guess has fallen if a job it looked past is settled with mark 1, or a
+    /// guess it took from has fallen or been thrown away."
+    ///
+    /// A guess takes only from earlier jobs, so going up through the jobs each
+    /// answer is known before it is needed. A job without a guess has none that
+    /// has fallen.
+    fn fallen(&self) -> Vec<bool> {
+        let mut fallen = Vec::new();
+        for entry in &self.jobs {
+            let has_fallen = match &entry.guess {
+                None => false,
+                Some(guess) => {
+                    let past = guess.looked_past.iter().any(|&k| self.mark(k) == 1);
+                    let source = guess
+                        .taken_from
+                        .iter()
+                        .any(|&k| fallen[k] || self.is_thrown_away(k));
+                    past || source
+                }
+            };
+            fallen.push(has_fallen);
+        }
+        fallen
+    }
+
+    fn has_fallen(&self, job: usize) -> bool {
+        self.fallen()[job]
+    }
+
+    fn is_thrown_away(&self, job: usize) -> bool {
+        match &self.jobs[job].guess {
+            Some(guess) => guess.state == GuessState::ThrownAway,
+            None => false,
+        }
+    }
+
+    /// "A ready job's guess that has not fallen stands." It stands while it is
+    /// out as well as when its report is stored.
+    fn guess_stands(&self, job: usize) -> bool {
+        self.jobs[job].guess.is_some()
+            && !self.is_thrown_away(job)
+            && self.is_ready(job)
+            && !self.has_fallen(job)
+    }
+
+    fn stored_report(&self, job: usize) -> Option<Report> {
+        match &self.jobs[job].guess {
+            Some(Guess { state: GuessState::Stored(report), .. }) => Some(*report),
+            _ => None,
+        }
+    }
+
+    fn guess_is_out(&self, job: usize) -> bool {
+        match &self.jobs[job].guess {
+            Some(guess) => guess.state == GuessState::Out,
+            None => false,
+        }
+    }
+
+    fn own_is_out(&self, job: usize) -> bool {
+        matches!(self.jobs[job].own, Own::Out(_))
+    }
+
+    /// The present values of a job's cells, in the order of its accesses;
+    /// "unused places are 0".
+    fn present_values(&self, job: usize) -> [i32; 4] {
+        let mut values = [0; 4];
+        for (place, access) in self.jobs[job].job.accesses.iter().enumerate() {
+            values[place] = self.cells[access.cell as usize];
+        }
+        values
+    }
+
+    /// The guess that would be entered for this job now, or none if "a writer
+    /// met has no stored report or its guess has fallen".
+    ///
+    /// "For each cell of the job, go back through earlier unsettled jobs. A
+    /// maybe-writer of that cell is looked past; at a writer (mode 1) the value
+    /// its guess reported is taken; if none is met, the present cell value is
+    /// handed out."
+    fn new_guess(&self, job: usize) -> Option<Guess> {
+        let fallen = self.fallen();
+        let mut handed = self.present_values(job);
+        let mut looked_past = BTreeSet::new();
+        let mut taken_from = BTreeSet::new();
+        for (place, access) in self.jobs[job].job.accesses.iter().enumerate() {
+            for earlier in (0..job).rev() {
+                if self.is_settled(earlier) {
+                    continue;
+                }
+                match self.jobs[earlier].job.access_to(access.cell) {
+                    Some((_, MAYBE)) => {
+                        looked_past.insert(earlier);
+                    }
+                    Some((there, WRITE)) => {
+                        let report = self.stored_report(earlier)?;
+                        if fallen[earlier] {
+                            return None;
+                        }
+                        handed[place] = report.values[there];
+                        taken_from.insert(earlier);
+                        break;
+                    }
+                    // A reader of the cell, or a job without it.
+                    _ => {}
+                }
+            }
+        }
+        Some(Guess { handed, looked_past, taken_from, state: GuessState::Out })
+    }
+
+    /// "Values reported for cells not written are ignored and the handed ones
+    /// stored." Unused places are 0.
+    fn stored_form(&self, job: usize, handed: [i32; 4], report: Report) -> Report {
+        let mut values = [0; 4];
+        for (place, access) in self.jobs[job].job.accesses.iter().enumerate() {
+            values[place] = if Job::writes(access, report.mark) {
+                report.values[place]
+            } else {
+                handed[place]
+            };
+        }
+        Report { values, mark: report.mark }
+    }
+
+    /// The cells that the report writes get its values; all other cells stay.
+    fn write_cells(&mut self, job: usize, report: Report) {
+        for (place, access) in self.jobs[job].job.accesses.iter().enumerate() {
+            if Job::writes(access, report.mark) {
+                self.cells[access.cell as usize] = report.values[place];
+            }
+        }
+    }
+}
+
+// ---------------------------------------------------------------------------
+// What refuses a step
+
+impl Batch {
+    /// "10: step or choice before sealing."
+    /// "11: job number not below the job count."
+    fn check_any_step(&self, job: u32) -> Result<(), u32> {
+        if self.sealed.is_none() {
+            return Err(10);
+        }
+        if job as usize >= self.jobs.len() {
+            return Err(11);
+        }
+        Ok(())
+    }
+
+    /// "16: mark not 0 or 1, or 1 from a job without mode 2."
+    fn check_mark(&self, job: usize, mark: u32) -> Result<(), u32> {
+        if mark > 1 || (mark == 1 && !self.jobs[job].job.has_maybe_write()) {
+            return Err(16);
+        }
+        Ok(())
+    }
+
+    fn check_start_own(&self, number: u32) -> Result<(), u32> {
+        self.check_any_step(number)?;
+        let job = number as usize;
+        // "13: start own when settled or its own run is out"
+        if self.is_settled(job) || self.own_is_out(job) {
+            return Err(13);
+        }
+        // "15: start own or settle of a job not ready"
+        if !self.is_ready(job) {
+            return Err(15);
+        }
+        // "17: start own while its guess stands."
+        if self.guess_stands(job) {
+            return Err(17);
+        }
+        Ok(())
+    }
+
+    fn check_start_guess(&self, number: u32) -> Result<Guess, u32> {
+        self.check_any_step(number)?;
+        let job = number as usize;
+        // "12: start guess with guessing off."
+        if self.sealed == Some(false) {
+            return Err(12);
+        }
+        // "13: start guess when settled, its own run is out, or a guess was
+        // ever started"
+        if self.is_settled(job) || self.own_is_out(job) || self.jobs[job].guess.is_some() {
+            return Err(13);
+        }
+        // "14: start guess of a ready job."
+        if self.is_ready(job) {
+            return Err(14);
+        }
+        // "15: start guess when a writer met has no stored report or its guess
+        // has fallen."
+        self.new_guess(job).ok_or(15)
+    }
+
+    fn check_report_own(&self, number: u32, mark: u32) -> Result<(), u32> {
+        self.check_any_step(number)?;
+        let job = number as usize;
+        // "13: report own or guess when that run is not out"
+        if !self.own_is_out(job) {
+            return Err(13);
+        }
+        self.check_mark(job, mark)
+    }
+
+    fn check_report_guess(&self, number: u32, mark: u32) -> Result<(), u32> {
+        self.check_any_step(number)?;
+        let job = number as usize;
+        // "13: report own or guess when that run is not out (a thrown-away guess
+        // is not)"
+        if !self.guess_is_out(job) {
+            return Err(13);
+        }
+        self.check_mark(job, mark)
+    }
+
+    fn check_settle(&self, number: u32) -> Result<Report, u32> {
+        self.check_any_step(number)?;
+        let job = number as usize;
+        // "13: settle when settled or no guess is in stored state."
+        if self.is_settled(job) {
+            return Err(13);
+        }
+        let report = self.stored_report(job).ok_or(13u32)?;
+        // "15: start own or settle of a job not ready"
+        if !self.is_ready(job) {
+            return Err(15);
+        }
+        // "18: settle a fallen guess."
+        if self.has_fallen(job) {
+            return Err(18);
+        }
+        Ok(report)
+    }
+
+    /// What this step would be answered now, with a well-formed report where one
+    /// is due: 0 or a refusal. Used by the chooser and by the generator of plans.
+    /// A number above 4 is no step, and only then is there no answer.
+    pub fn would_answer(&self, step: u32, job: u32) -> Option<u32> {
+        let check = match step {
+            START_OWN => self.check_start_own(job),
+            START_GUESS => self.check_start_guess(job).map(|_guess| ()),
+            REPORT_OWN => self.check_report_own(job, 0),
+            REPORT_GUESS => self.check_report_guess(job, 0),
+            SETTLE => self.check_settle(job).map(|_report| ()),
+            _ => return None,
+        };
+        Some(check.err().unwrap_or(0))
+    }
+}
+
+// ---------------------------------------------------------------------------
+// The steps
+
+impl Batch {
+    /// "0 start own: hands out present cell values."
+    pub fn start_own(&mut self, number: u32) -> Result<[i32; 4], u32> {
+        self.check_start_own(number)?;
+        let job = number as usize;
+        let handed = self.present_values(job);
+        // "Starting a job's own run throws its fallen guess away." The guess of
+        // a ready job that does not stand has fallen.
+        if let Some(guess) = &mut self.jobs[job].guess {
+            guess.state = GuessState::ThrownAway;
+        }
+        self.jobs[job].own = Own::Out(handed);
+        Ok(handed)
+    }
+
+    /// "1 start guess: once per job."
+    pub fn start_guess(&mut self, number: u32) -> Result<[i32; 4], u32> {
+        let guess = self.check_start_guess(number)?;
+        let handed = guess.handed;
+        self.jobs[number as usize].guess = Some(guess);
+        Ok(handed)
+    }
+
+    /// "2 report own: writes its cells and settles the job."
+    pub fn report_own(&mut self, number: u32, report: Report) -> Result<(), u32> {
+        self.check_report_own(number, report.mark)?;
+        let job = number as usize;
+        self.write_cells(job, report);
+        self.jobs[job].own = Own::Reported;
+        self.jobs[job].settled = Settled::ByOwnRun { mark: report.mark };
+        Ok(())
+    }
+
+    /// "3 report guess: stores the report; no cell changes."
+    pub fn report_guess(&mut self, number: u32, report: Report) -> Result<(), u32> {
+        self.check_report_guess(number, report.mark)?;
+        let job = number as usize;
+        let handed = self.guess_handed(number).unwrap_or([0; 4]);
+        let stored = self.stored_form(job, handed, report);
+        if let Some(guess) = &mut self.jobs[job].guess {
+            guess.state = GuessState::Stored(stored);
+        }
+        Ok(())
+    }
+
+    /// "4 settle: writes the stored report into the cells; the job is settled by
+    /// its guess with that mark."
+    pub fn settle(&mut self, number: u32) -> Result<(), u32> {
+        let report = self.check_settle(number)?;
+        let job = number as usize;
+        self.write_cells(job, report);
+        if let Some(guess) = &mut self.jobs[job].guess {
+            guess.state = GuessState::Kept;
+        }
+        self.jobs[job].settled = Settled::ByGuess { mark: report.mark };
+        Ok(())
+    }
+}
+
+// ---------------------------------------------------------------------------
+// The chooser
+
+impl Batch {
+    /// The length of "the longest chain of later jobs, each conflicting with the
+    /// one before it", "the job itself counted", for every job.
+    fn chains(&self) -> Vec<u32> {
+        let count = self.jobs.len();
+        let mut chains = vec![1; count];
+        for job in (0..count).rev() {
+            for later in job + 1..count {
+                if conflict(&self.jobs[job].job, &self.jobs[later].job) {
+                    chains[job] = chains[job].max(1 + chains[later]);
+                }
+            }
+        }
+        chains
+    }
+
+    /// "The chooser names one allowed step among 4, 0 and 1, in that order of
+    /// preference. Within a step number it takes the job with the longest chain
+    /// ... Ties go to the lowest job number."
+    pub fn choose(&self) -> Result<Choice, u32> {
+        // "10: step or choice before sealing."
+        if self.sealed.is_none() {
+            return Err(10);
+        }
+        let chains = self.chains();
+        for step in [SETTLE, START_OWN, START_GUESS] {
+            let mut best: Option<Choice> = None;
+            for job in 0..self.job_count() {
+                if self.would_answer(step, job) != Some(0) {
+                    continue;
+                }
+                let chain = chains[job as usize];
+                if best.map_or(true, |found| chain > found.chain) {
+                    best = Some(Choice { step, job, chain });
+                }
+            }
+            if let Some(choice) = best {
+                return Ok(choice);
+            }
+        }
+        // "19: the chooser finds no allowed step 4, 0 or 1."
+        Err(19)
+    }
+}
+
+// ---------------------------------------------------------------------------
+// The reader of results: "Asking is allowed before sealing."
+
+impl Batch {
+    pub fn job_count(&self) -> u32 {
+        self.jobs.len() as u32
+    }
+
+    pub fn cell_count(&self) -> u32 {
+        self.cells.len() as u32
+    }
+
+    /// "A sealed batch of no jobs is finished."
+    pub fn finished(&self) -> bool {
+        self.sealed.is_some() && (0..self.jobs.len()).all(|job| self.is_settled(job))
+    }
+
+    /// "5 and 11: as above, for asking a cell or a job."
+    pub fn ask_cell(&self, cell: u32) -> Result<i32, u32> {
+        self.cells.get(cell as usize).copied().ok_or(5)
+    }
+
+    pub fn ask_job(&self, job: u32) -> Result<Settled, u32> {
+        self.jobs.get(job as usize).map(|entry| entry.settled).ok_or(11)
+    }
+
+    /// "20: cells are copied out from a given place of a longer buffer, and
+    /// fewer places remain than cells. All other places keep their values."
+    pub fn copy_cells(&self, buffer: &mut [i32], place: usize) -> Result<(), u32> {
+        let remain = buffer.len().saturating_sub(place);
+        if remain < self.cells.len() {
+            return Err(20);
+        }
+        buffer[place..place + self.cells.len()].copy_from_slice(&self.cells);
+        Ok(())
+    }
+
+    /// A job as it was inserted.
+    pub fn job(&self, job: u32) -> Option<&Job> {
+        self.jobs.get(job as usize).map(|entry| &entry.job)
+    }
+
+    /// A job's guess, if one was ever started.
+    pub fn guess(&self, job: u32) -> Option<&Guess> {
+        self.jobs.get(job as usize)?.guess.as_ref()
+    }
+
+    /// Whether a job has a guess, and it has fallen.
+    pub fn guess_has_fallen(&self, job: u32) -> bool {
+        self.guess(job).is_some() && self.has_fallen(job as usize)
+    }
+
+    /// The values handed to a job's own run while that run is out.
+    pub fn own_handed(&self, job: u32) -> Option<[i32; 4]> {
+        match self.jobs.get(job as usize)?.own {
+            Own::Out(handed) => Some(handed),
+            _ => None,
+        }
+    }
+
+    /// The values handed to a job's guess, if one was ever started.
+    pub fn guess_handed(&self, job: u32) -> Option<[i32; 4]> {
+        self.guess(job).map(|guess| guess.handed)
+    }
+}

@@ -1,0 +1,190 @@
+//! The worked plan, the two batches of the request, and P1 to P9.
+
+use second_hand::answer;
+use second_hand::engine::{conflict, Access, Batch, Job, Report, Settled, MAYBE, READ, WRITE};
+use second_hand::kinds;
+
+fn told(plan: &str) -> String {
+    String::from_utf8(answer(plan.as_bytes())).unwrap()
+}
+
+fn on(cell: u32, mode: u32) -> Access {
+    Access { cell, mode }
+}
+
+/// The values of the first two places, and the mark.
+fn first_two(kind: u32, p: i32, a: i32, b: i32) -> (i32, i32, u32) {
+    let report = kinds::result(kind, p, [a, b, 0, 0]).unwrap();
+    (report.values[0], report.values[1], report.mark)
+}
+
+#[test]
+fn p1_floor() {
+    assert_eq!(first_two(4, 1400, 1399, 0), (1400, 0, 1));
+    assert_eq!(first_two(4, 1400, 1400, 0), (1400, 0, 0));
+}
+
+#[test]
+fn p2_spike() {
+    assert_eq!(first_two(3, 1399, 2900, 1500), (1500, 1500, 1));
+    assert_eq!(first_two(3, 1400, 2900, 1500), (2900, 1500, 0));
+}
+
+#[test]
+fn p3_spike_across_the_whole_range() {
+    let (low, high) = (-2147483648, 2147483647);
+    assert_eq!(first_two(3, 2147483647, high, low), (low, low, 1));
+    assert_eq!(first_two(3, 2147483647, low, high), (high, high, 1));
+}
+
+#[test]
+fn p4_shift() {
+    assert_eq!(first_two(2, 20, 2147483640, 0), (2147483647, 0, 0));
+    assert_eq!(first_two(2, -20, -2147483640, 0), (-2147483648, 0, 0));
+}
+
+#[test]
+fn p5_mean() {
+    let mean = |b, c| kinds::result(5, 0, [7, b, c, 0]).unwrap();
+    assert_eq!(mean(3, 4), Report { values: [3, 3, 4, 0], mark: 0 });
+    assert_eq!(mean(-3, -4), Report { values: [-4, -3, -4, 0], mark: 0 });
+    assert_eq!(mean(i32::MAX, i32::MAX).values[0], i32::MAX);
+    assert_eq!(mean(i32::MIN, i32::MIN).values[0], i32::MIN);
+    assert_eq!(mean(i32::MIN, i32::MAX).values[0], -1);
+}
+
+#[test]
+fn p6_pair() {
+    assert_eq!(first_two(6, 0, 1720, 1480), (1480, 1720, 1));
+    assert_eq!(first_two(6, 0, 1480, 1480), (1480, 1480, 0));
+    assert_eq!(first_two(6, 0, 1480, 1720), (1480, 1720, 0));
+}
+
+#[test]
+fn p7_conflict() {
+    let job = |cell, mode| Job { kind: 0, p: 0, accesses: vec![on(cell, mode)] };
+    assert!(!conflict(&job(0, READ), &job(0, READ)));
+    assert!(conflict(&job(0, READ), &job(0, MAYBE)));
+    assert!(conflict(&job(0, MAYBE), &job(0, READ)));
+    assert!(conflict(&job(0, READ), &job(0, WRITE)));
+    assert!(conflict(&job(0, WRITE), &job(0, WRITE)));
+    assert!(!conflict(&job(0, WRITE), &job(1, WRITE)));
+}
+
+#[test]
+fn p8_the_worked_plan() {
+    let input = "cell value\n0 1500\n1 1480\nkind p a b c\n4 1400 0 - -\n2 20 0 - -\nguess\n1\n\
+                 step job\n0 0\n1 1\n3 1\n2 0\n4 1\n";
+    let output = "step answer\n0 0\n1 0\n3 0\n2 0\n4 0\njob how mark\n0 1 0\n1 2 0\n\
+                  cell value\n0 1520\n1 1480\n";
+    assert_eq!(told(input), output);
+}
+
+#[test]
+fn p9_both_guesses_fall() {
+    let mut batch = Batch::open(&[1300]).unwrap();
+    batch.insert(4, 1400, &[on(0, MAYBE)]).unwrap();
+    batch.insert(2, 20, &[on(0, WRITE)]).unwrap();
+    batch.insert(2, 20, &[on(0, WRITE)]).unwrap();
+    batch.seal(1).unwrap();
+    assert_eq!(batch.start_own(0), Ok([1300, 0, 0, 0]));
+    assert_eq!(batch.start_guess(1), Ok([1300, 0, 0, 0]));
+    assert_eq!(batch.report_guess(1, Report { values: [1320, 0, 0, 0], mark: 0 }), Ok(()));
+    assert_eq!(batch.start_guess(2), Ok([1320, 0, 0, 0]));
+    assert_eq!(batch.report_guess(2, Report { values: [1340, 0, 0, 0], mark: 0 }), Ok(()));
+    assert_eq!(batch.report_own(0, Report { values: [1400, 0, 0, 0], mark: 1 }), Ok(()));
+    assert!(batch.guess_has_fallen(1) && batch.guess_has_fallen(2));
+    assert_eq!(batch.start_own(2), Err(15));
+    assert_eq!(batch.settle(1), Err(18));
+    assert_eq!(batch.start_own(1), Ok([1400, 0, 0, 0]));
+    assert_eq!(batch.report_own(1, Report { values: [1420, 0, 0, 0], mark: 0 }), Ok(()));
+    // Job 2 took from a guess that was thrown away.
+    assert_eq!(batch.settle(2), Err(18));
+    assert_eq!(batch.start_own(2), Ok([1420, 0, 0, 0]));
+    assert_eq!(batch.report_own(2, Report { values: [1440, 0, 0, 0], mark: 0 }), Ok(()));
+    assert!(batch.finished());
+    assert_eq!(batch.ask_cell(0), Ok(1440));
+}
+
+#[test]
+fn monday() {
+    // The spike test found 1,500 sound, and the guessed 1,520 was taken over.
+    let plan = "cell value\n0 1500\n1 1480\nkind p a b c\n3 400 0 1 -\n2 20 0 - -\nguess\n1\n\
+                step job\n0 0\n1 1\n3 1\n2 0\n4 1\n";
+    let output = "step answer\n0 0\n1 0\n3 0\n2 0\n4 0\njob how mark\n0 1 0\n1 2 0\n\
+                  cell value\n0 1520\n1 1480\n";
+    assert_eq!(told(plan), output);
+}
+
+#[test]
+fn thursday() {
+    // The same test struck out 2,900 and put in 1,500; the shift ran again.
+    let plan = "cell value\n0 2900\n1 1500\nkind p a b c\n3 400 0 1 -\n2 20 0 - -\nguess\n1\n\
+                step job\n0 0\n1 1\n3 1\n2 0\n4 1\n0 1\n2 1\n";
+    let output = "step answer\n0 0\n1 0\n3 0\n2 0\n4 18\n0 0\n2 0\njob how mark\n0 1 1\n1 1 0\n\
+                  cell value\n0 1520\n1 1500\n";
+    assert_eq!(told(plan), output);
+}
+
+#[test]
+fn mark_1_with_an_unchanged_height_fells_the_guess() {
+    // A spike with p below 0 puts 1,500 in for 1,500.
+    let plan = "cell value\n0 1500\n1 1500\nkind p a b c\n3 -1 0 1 -\n2 20 0 - -\nguess\n1\n\
+                step job\n0 0\n1 1\n3 1\n2 0\n4 1\n0 1\n2 1\n";
+    let output = "step answer\n0 0\n1 0\n3 0\n2 0\n4 18\n0 0\n2 0\njob how mark\n0 1 1\n1 1 0\n\
+                  cell value\n0 1520\n1 1500\n";
+    assert_eq!(told(plan), output);
+}
+
+#[test]
+fn an_earlier_reader_holds_a_writer_back() {
+    let mut batch = Batch::open(&[1, 2]).unwrap();
+    batch.insert(0, 0, &[on(0, READ)]).unwrap();
+    batch.insert(1, 9, &[on(0, WRITE)]).unwrap();
+    batch.seal(1).unwrap();
+    assert_eq!(batch.start_own(1), Err(15));
+    assert_eq!(batch.start_guess(1), Ok([1, 0, 0, 0]));
+    assert_eq!(batch.report_guess(1, Report { values: [9, 0, 0, 0], mark: 0 }), Ok(()));
+    assert_eq!(batch.settle(1), Err(15));
+    assert_eq!(batch.start_own(0), Ok([1, 0, 0, 0]));
+    assert_eq!(batch.report_own(0, Report { values: [77, 77, 77, 77], mark: 0 }), Ok(()));
+    assert_eq!(batch.ask_cell(0), Ok(1));
+    assert_eq!(batch.settle(1), Ok(()));
+    assert_eq!(batch.ask_cell(0), Ok(9));
+    assert_eq!(batch.ask_job(1), Ok(Settled::ByGuess { mark: 0 }));
+}
+
+#[test]
+fn the_chooser() {
+    let mut batch = Batch::open(&[1, 2]).unwrap();
+    batch.insert(1, 5, &[on(1, WRITE)]).unwrap(); // 0: a chain of one
+    batch.insert(4, 0, &[on(0, MAYBE)]).unwrap(); // 1: a chain of three
+    batch.insert(2, 1, &[on(0, WRITE)]).unwrap();
+    batch.insert(2, 1, &[on(0, WRITE)]).unwrap();
+    batch.seal(1).unwrap();
+    let choice = |batch: &Batch| batch.choose().map(|c| (c.step, c.job, c.chain));
+    assert_eq!(choice(&batch), Ok((0, 1, 3)));
+    batch.start_own(1).unwrap();
+    assert_eq!(choice(&batch), Ok((0, 0, 1)));
+    batch.start_own(0).unwrap();
+    assert_eq!(choice(&batch), Ok((1, 2, 2)));
+    batch.start_guess(2).unwrap();
+    assert_eq!(choice(&batch), Err(19));
+    batch.report_guess(2, Report { values: [2, 0, 0, 0], mark: 0 }).unwrap();
+    assert_eq!(choice(&batch), Ok((1, 3, 1)));
+    batch.report_own(1, Report { values: [0, 0, 0, 0], mark: 0 }).unwrap();
+    assert_eq!(choice(&batch), Ok((4, 2, 2)));
+}
+
+#[test]
+fn limits_that_are_accepted() {
+    let mut batch = Batch::open(&[0; 64]).unwrap();
+    for _ in 0..128 {
+        batch.insert(4, 0, &[on(63, MAYBE)]).unwrap();
+    }
+    assert_eq!(batch.insert(4, 0, &[on(63, MAYBE)]), Err(3));
+    let mut batch = Batch::open(&[0]).unwrap();
+    assert!(!batch.finished());
+    batch.seal(0).unwrap();
+    assert!(batch.finished());
+}
