@@ -1,0 +1,6 @@
+pub mod Lines
+pub mod LineLaws
+pub mod Plan
+pub mod PlanLaws
+pub mod Examples
+pub mod ExamplePlan
