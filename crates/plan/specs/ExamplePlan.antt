@@ -8,7 +8,7 @@ use Rattle.laws.specs.Search.{anyBelow}
 use Rattle.laws.specs.Refusal.{firstOf}
 use Rattle.text.specs.Pieces.{pieces}
 use Rattle.text.specs.SameText.{sameText}
-use Rattle.number.specs.Numbers.{allDigits, valueAfter, hasLeadingZero, naturalUpTo, negativeOf, positiveOf, signedOf}
+use Rattle.number.specs.Numbers.{allDigits, valueAfter, hasLeadingZero, naturalUpTo, negativeOf, unsignedOf, signedOf}
 use Rattle.steplines.specs.StepLines.{stepLineOf}
 use Rattle.dependence.specs.declared.Job.{Job}
 use Rattle.dependence.specs.Job.{noAccess}
@@ -71,5 +71,5 @@ pub example-plan-read :
       batch = withSealed (withInserted (withInserted (opened (pos 1500 ∷ pos 1480 ∷ []) .batch) floorJob) shiftJob) 1;
       «step_line» = 9;
     }
-unfolding examplePlan pieces sameText allDigits valueAfter hasLeadingZero naturalUpTo negativeOf positiveOf signedOf stepLineOf anyBelow firstOf jobRefusal reachesTo hasJob bit jobOut inForm opened withInserted inserted withSealed sealedWith cellLineOf cellFieldOf jobWith jobLineOf start withHeight answered cellNamesRead jobNamesRead cellRead cellPartRead jobRead jobPartRead switchRead stepNamesRead stepRead lineRead ended linesRead
+unfolding examplePlan pieces sameText allDigits valueAfter hasLeadingZero naturalUpTo negativeOf unsignedOf signedOf stepLineOf anyBelow firstOf jobRefusal reachesTo hasJob bit jobOut inForm opened withInserted inserted withSealed sealedWith cellLineOf cellFieldOf jobWith jobLineOf start withHeight answered cellNamesRead jobNamesRead cellRead cellPartRead jobRead jobPartRead switchRead stepNamesRead stepRead lineRead ended linesRead
 example-plan-read = refl

@@ -1,0 +1,4 @@
+pub mod Output
+pub mod ExampleOutput
+pub mod Lines
+pub mod Lengths
