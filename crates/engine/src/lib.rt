@@ -13,6 +13,7 @@ mod steps;
 
 /// A run of a job: the values handed out and the report on it. Of a speculative run also where its values came from:
 /// for each place one more than the number of the job it was forwarded from, 0 for the cell itself, and the jobs bypassed.
+#[repr(C)]
 pub struct Run {
     pub handed: [i32; 4],
     pub reported: [i32; 4],
@@ -23,6 +24,7 @@ pub struct Run {
 
 /// A batch. The first `cell_count` cells and the first `job_count` places of each column are in use.
 /// A job has one run at a time: starting its own run takes the place of its speculative one.
+#[repr(C)]
 pub struct Batch {
     pub cell_count: u8,
     pub job_count: u8,
@@ -42,12 +44,14 @@ pub struct Batch {
 }
 
 /// What a call answers that hands nothing out: 0 or the number of its refusal, and the batch.
+#[repr(C)]
 pub struct Answer {
     pub refusal: u8,
     pub batch: Batch,
 }
 
 /// What a start answers: the values handed to the run too, 0 each where it is refused.
+#[repr(C)]
 pub struct Started {
     pub refusal: u8,
     pub handed: [i32; 4],
@@ -55,6 +59,7 @@ pub struct Started {
 }
 
 /// What asking a cell answers: its height, 0 where it is refused.
+#[repr(C)]
 pub struct CellAnswer {
     pub refusal: u8,
     pub height: i32,
@@ -62,6 +67,7 @@ pub struct CellAnswer {
 
 /// What asking a job answers: how it was committed and its mark, whether its own run is out, the phase of its
 /// speculative run, the values of the run it holds, and the job as inserted. All are 0 where it is refused.
+#[repr(C)]
 pub struct JobAnswer {
     pub refusal: u8,
     pub committed: u8,
@@ -74,6 +80,7 @@ pub struct JobAnswer {
 }
 
 /// What asking for the batch's progress answers. All are 0, and `finished` is false, where it is refused.
+#[repr(C)]
 pub struct BatchAnswer {
     pub refusal: u8,
     pub cell_count: u8,
@@ -84,6 +91,7 @@ pub struct BatchAnswer {
 }
 
 /// What the chooser answers: the step, the job and the length of its chain, or the number of the refusal and zeros.
+#[repr(C)]
 pub struct Choice {
     pub refusal: u8,
     pub step: u8,

@@ -368,7 +368,9 @@ impl Batch {
         let old = self.runs[j];
         let run = reported_run(job, old, values, wrote);
         let cells = self.cells;
-        self.with_job_changed(j, cells, run, 0, 0, 2)
+        let committed = self.committed[j];
+        let running = self.running[j];
+        self.with_job_changed(j, cells, run, committed, running, 2)
     }
 
     /// Step 3: stores the report on the speculative run of job `j`; no cell changes.
@@ -416,7 +418,8 @@ impl Batch {
         let reported = run.reported;
         let present = self.cells;
         let cells = runs::write_back(job, reported, run.wrote, present);
-        self.with_job_changed(j, cells, run, 2, 0, 2)
+        let running = self.running[j];
+        self.with_job_changed(j, cells, run, 2, running, 2)
     }
 
     /// Step 4: commits job `j` by its speculative run, whose stored report is written into the cells.

@@ -18,11 +18,14 @@ element-copy-out-run c = search needs
 write-back-requires : tie.Need-write-back-requires
 write-back-requires c κs = search needs
 
+element-copy-out-running : tie.Need-element-copy-out-running
+element-copy-out-running c = search needs
+
 with-job-changed-requires : tie.Need-with-job-changed-requires
 with-job-changed-requires c κs = search needs
 
 returns : tie.Need-returns
-returns c = rw (c .with-job-changed .ensures, c .before .write-back .ensures)
+returns c = rw (c .with-job-changed .ensures, c .before .before .write-back .ensures)
 
 pub speculation-committed-spec : {M : Type 1} → statement M
 speculation-committed-spec =
@@ -33,5 +36,6 @@ speculation-committed-spec =
     mul-run
     element-copy-out-run
     write-back-requires
+    element-copy-out-running
     with-job-changed-requires
     returns)

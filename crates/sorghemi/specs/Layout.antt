@@ -1,0 +1,51 @@
+-- How the record and the structs beside it lie in memory: the one list that hosts compare their own with.
+-- It begins with its version, which also changes where a field only changes its meaning. Then come, for each struct, its size
+-- and the offsets of its fields in their order, in bytes.
+use Prim.Native.Nat.{ℕ}
+use mathlib.Core.List.{List, [], _∷_, _++_}
+
+abbrev batch : List ℕ
+batch = 10376 ∷ 0 ∷ 1 ∷ 2 ∷ 3 ∷ 4 ∷ 260 ∷ 2824 ∷ 9992 ∷ 10120 ∷ 10248 ∷ []
+
+abbrev run : List ℕ
+run = 56 ∷ 0 ∷ 16 ∷ 32 ∷ 33 ∷ 40 ∷ []
+
+abbrev jobSet : List ℕ
+jobSet = 16 ∷ 0 ∷ 8 ∷ []
+
+abbrev job : List ℕ
+job = 20 ∷ 0 ∷ 4 ∷ 8 ∷ 9 ∷ []
+
+abbrev access : List ℕ
+access = 2 ∷ 0 ∷ 1 ∷ []
+
+abbrev report : List ℕ
+report = 20 ∷ 0 ∷ 16 ∷ []
+
+abbrev handed : List ℕ
+handed = 20 ∷ 0 ∷ 4 ∷ []
+
+abbrev stepped : List ℕ
+stepped = 10400 ∷ 0 ∷ 24 ∷ []
+
+abbrev answer : List ℕ
+answer = 10384 ∷ 0 ∷ 8 ∷ []
+
+abbrev choice : List ℕ
+choice = 4 ∷ 0 ∷ 1 ∷ 2 ∷ 3 ∷ []
+
+abbrev cellAnswer : List ℕ
+cellAnswer = 8 ∷ 0 ∷ 4 ∷ []
+
+abbrev jobAnswer : List ℕ
+jobAnswer = 60 ∷ 0 ∷ 1 ∷ 2 ∷ 3 ∷ 4 ∷ 8 ∷ 24 ∷ 40 ∷ []
+
+abbrev batchAnswer : List ℕ
+batchAnswer = 6 ∷ 0 ∷ 1 ∷ 2 ∷ 3 ∷ 4 ∷ 5 ∷ []
+
+abbrev pub layout : List ℕ
+layout =
+    1
+    ∷ batch ++ run ++ jobSet ++ job ++ access
+    ++ report ++ handed ++ stepped ++ answer
+    ++ choice ++ cellAnswer ++ jobAnswer ++ batchAnswer

@@ -1,0 +1,100 @@
+//! How a batch record lies in memory, for hosts to compare with their own.
+
+ghost use mathlib.Core.Path.{_≡_};
+ghost use lib.ListN.{getD};
+ghost use Rattle.sorghemi.specs.Layout.{layout};
+
+/// The version of the list, then of each struct its size and the offsets of its fields in their order.
+const NUMBERS: [u32; 65] = [
+    // the version
+    1,
+    // Batch
+    10376,
+    0,
+    1,
+    2,
+    3,
+    4,
+    260,
+    2824,
+    9992,
+    10120,
+    10248,
+    // Run
+    56,
+    0,
+    16,
+    32,
+    33,
+    40,
+    // JobSet
+    16,
+    0,
+    8,
+    // Job
+    20,
+    0,
+    4,
+    8,
+    9,
+    // Access
+    2,
+    0,
+    1,
+    // Report
+    20,
+    0,
+    16,
+    // Handed
+    20,
+    0,
+    4,
+    // Stepped
+    10400,
+    0,
+    24,
+    // Answer
+    10384,
+    0,
+    8,
+    // Choice
+    4,
+    0,
+    1,
+    2,
+    3,
+    // CellAnswer
+    8,
+    0,
+    4,
+    // JobAnswer
+    60,
+    0,
+    1,
+    2,
+    3,
+    4,
+    8,
+    24,
+    40,
+    // BatchAnswer
+    6,
+    0,
+    1,
+    2,
+    3,
+    4,
+    5,
+];
+
+/// The number at a place of the list that hosts compare their own with; 0 past its end.
+#[no_mangle]
+pub extern "C" fn sorghemi_layout(place: usize) -> u32
+    ensures { λ r. ⌜ r ≡ getD layout place 0 ⌝ }
+{
+    let numbers = NUMBERS;
+    if place < 65 {
+        return numbers[place];
+    }
+    0
+}

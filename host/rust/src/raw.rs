@@ -1,0 +1,134 @@
+//! The library's structs and functions, as host/c/sorghemi.h has them for C. `layout` checks the structs against the library's own.
+
+use crate::job::{Job, Report};
+
+/// One access of a job: a cell by its number, and its mode: 0 read, 1 write, 2 maybe-write.
+#[repr(C)]
+#[derive(Clone, Copy, Debug, PartialEq, Eq)]
+pub struct Access {
+    /// The cell.
+    pub cell: u8,
+    /// The mode.
+    pub mode: u8,
+}
+
+/// A set of jobs: bit j of `low` is job j, bit j of `high` is job 64 + j.
+#[repr(C)]
+#[derive(Clone, Copy, Debug, PartialEq, Eq)]
+pub struct JobSet {
+    /// Jobs 0 to 63.
+    pub low: u64,
+    /// Jobs 64 to 127.
+    pub high: u64,
+}
+
+/// A job's run: the values handed out, the report as stored, and of a guess where its values came from.
+#[repr(C)]
+#[derive(Clone, Copy, Debug, PartialEq, Eq)]
+pub struct Run {
+    /// The values handed out.
+    pub handed: [i32; 4],
+    /// The values of the report.
+    pub reported: [i32; 4],
+    /// The mark of the report.
+    pub wrote: u8,
+    /// For each access one more than the job that the value was taken from, 0 for the cell itself.
+    pub sources: [u8; 4],
+    /// The jobs looked past.
+    pub bypassed: JobSet,
+}
+
+/// A batch as it stands in memory. The library answers any record, and refuses one that is out of form with 32, so its
+/// fields are open. The first `cell_count` cells and `job_count` places of each column are in use.
+#[repr(C)]
+#[derive(Clone, Copy, Debug, PartialEq, Eq)]
+pub struct Record {
+    /// How many cells there are.
+    pub cell_count: u8,
+    /// How many jobs there are.
+    pub job_count: u8,
+    /// 1 once the list of jobs is sealed.
+    pub sealed: u8,
+    /// 1 if guesses may be started.
+    pub speculating: u8,
+    /// The heights.
+    pub cells: [i32; 64],
+    /// The jobs as inserted.
+    pub jobs: [Job; 128],
+    /// Each job's run.
+    pub runs: [Run; 128],
+    /// How the job was settled: 0 not yet, 1 by its own run, 2 by its guess.
+    pub committed: [u8; 128],
+    /// 1 while the job's own run is out.
+    pub running: [u8; 128],
+    /// The job's guess: 0 never started, 1 out, 2 with a stored report, 3 thrown away.
+    pub phase: [u8; 128],
+}
+
+#[repr(C)]
+pub struct Handed {
+    pub refusal: u8,
+    pub values: [i32; 4],
+}
+
+#[repr(C)]
+pub struct Stepped {
+    pub handed: Handed,
+    pub batch: Record,
+}
+
+#[repr(C)]
+pub struct Answer {
+    pub refusal: u8,
+    pub batch: Record,
+}
+
+#[repr(C)]
+pub struct Choice {
+    pub refusal: u8,
+    pub step: u8,
+    pub job: u8,
+    pub chain: u8,
+}
+
+#[repr(C)]
+pub struct CellAnswer {
+    pub refusal: u8,
+    pub height: i32,
+}
+
+#[repr(C)]
+pub struct JobAnswer {
+    pub refusal: u8,
+    pub committed: u8,
+    pub wrote: u8,
+    pub running: u8,
+    pub phase: u8,
+    pub handed: [i32; 4],
+    pub reported: [i32; 4],
+    pub job: Job,
+}
+
+#[repr(C)]
+pub struct BatchAnswer {
+    pub refusal: u8,
+    pub cell_count: u8,
+    pub job_count: u8,
+    pub sealed: u8,
+    pub speculating: u8,
+    pub finished: bool,
+}
+
+extern "C" {
+    pub fn sorghemi_open(heights: *const i32, count: usize) -> Answer;
+    pub fn sorghemi_insert(batch: Record, job: Job) -> Answer;
+    pub fn sorghemi_seal(batch: Record, guessing: u8) -> Answer;
+    pub fn sorghemi_step(batch: *mut Record, number: u8, job: usize, report: Report) -> Handed;
+    pub fn sorghemi_step_by_value(batch: Record, number: u8, job: usize, report: Report) -> Stepped;
+    pub fn sorghemi_choose(batch: Record) -> Choice;
+    pub fn sorghemi_ask_cell(batch: Record, cell: usize) -> CellAnswer;
+    pub fn sorghemi_ask_job(batch: Record, job: usize) -> JobAnswer;
+    pub fn sorghemi_ask_batch(batch: Record) -> BatchAnswer;
+    pub fn sorghemi_copy_out(batch: Record, buffer: *mut i32, size: usize, at: usize) -> u8;
+    pub fn sorghemi_layout(place: usize) -> u32;
+}
