@@ -81,13 +81,18 @@ fn writes_at(job: Job, wrote: u8, place: usize) -> bool
     wrote == 1
 }
 
-/// The value stored for the place: the reported one if the run wrote its cell, else the one handed out.
+/// The value stored for the place: the reported one if the run wrote its cell, else the one handed out; 0 where the place is
+/// not in use.
 fn stored_at(job: Job, handed: [i32; 4], reported: [i32; 4], wrote: u8, place: usize) -> i32
     requires { ⌜ place < 4 ⌝ }
     ensures { λ r. ⌜ r ≡ storedAt job handed reported wrote place ⌝ }
 {
     if writes_at(job, wrote, place) {
         return reported[place];
+    }
+    let arity = job.arity as usize;
+    if arity <= place {
+        return 0;
     }
     handed[place]
 }

@@ -82,7 +82,7 @@ impl Batch {
         Ok(Batch { record: answer.batch })
     }
 
-    /// A batch from a record that the host kept. One that is out of form is refused here, and would be by every call.
+    /// A batch from a record that the host kept. Every call, this one too, refuses a record that is out of form with 32.
     pub fn from_record(record: Record) -> Result<Batch, Refusal> {
         if !layout::is_library_s() {
             return Err(Refusal::OUT_OF_FORM);

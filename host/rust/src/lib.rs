@@ -44,7 +44,7 @@ mod batch;
 mod bytes;
 mod job;
 mod layout;
-mod raw;
+pub mod raw;
 mod refusal;
 
 pub use batch::{Batch, Choice, JobState, Progress, Step};

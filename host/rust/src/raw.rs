@@ -65,25 +65,37 @@ pub struct Record {
     pub phase: [u8; 128],
 }
 
+/// What a step answers: the number of its refusal or 0, and the values handed to a run that it started, zeros otherwise.
 #[repr(C)]
+#[derive(Clone, Copy, Debug, PartialEq, Eq)]
+#[allow(missing_docs)]
 pub struct Handed {
     pub refusal: u8,
     pub values: [i32; 4],
 }
 
+/// The same with the record handed back.
 #[repr(C)]
+#[derive(Clone, Copy, Debug, PartialEq, Eq)]
+#[allow(missing_docs)]
 pub struct Stepped {
     pub handed: Handed,
     pub batch: Record,
 }
 
+/// The number of a refusal or 0, and the record handed back.
 #[repr(C)]
+#[derive(Clone, Copy, Debug, PartialEq, Eq)]
+#[allow(missing_docs)]
 pub struct Answer {
     pub refusal: u8,
     pub batch: Record,
 }
 
+/// What the chooser names; zeros where it is refused.
 #[repr(C)]
+#[derive(Clone, Copy, Debug, PartialEq, Eq)]
+#[allow(missing_docs)]
 pub struct Choice {
     pub refusal: u8,
     pub step: u8,
@@ -91,13 +103,19 @@ pub struct Choice {
     pub chain: u8,
 }
 
+/// A cell's height, 0 where it is refused.
 #[repr(C)]
+#[derive(Clone, Copy, Debug, PartialEq, Eq)]
+#[allow(missing_docs)]
 pub struct CellAnswer {
     pub refusal: u8,
     pub height: i32,
 }
 
+/// How a job stands; zeros where it is refused.
 #[repr(C)]
+#[derive(Clone, Copy, Debug, PartialEq, Eq)]
+#[allow(missing_docs)]
 pub struct JobAnswer {
     pub refusal: u8,
     pub committed: u8,
@@ -109,7 +127,10 @@ pub struct JobAnswer {
     pub job: Job,
 }
 
+/// How the batch stands; zeros where it is refused.
 #[repr(C)]
+#[derive(Clone, Copy, Debug, PartialEq, Eq)]
+#[allow(missing_docs)]
 pub struct BatchAnswer {
     pub refusal: u8,
     pub cell_count: u8,
@@ -119,6 +140,9 @@ pub struct BatchAnswer {
     pub finished: bool,
 }
 
+// Each is proved, for every record and every number, to answer what the engine's definitions say. A caller owes valid pointers
+// and lengths, and nothing else.
+#[allow(missing_docs)]
 extern "C" {
     pub fn sorghemi_open(heights: *const i32, count: usize) -> Answer;
     pub fn sorghemi_insert(batch: Record, job: Job) -> Answer;

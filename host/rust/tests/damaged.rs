@@ -1,0 +1,198 @@
+//! Damaged records: bytes of valid records are changed at random, every entry is called on what comes out, and each answer
+//! and the record after it are held against the second hand's (`second_hand::record`). DAMAGED=COUNT sets how many records,
+//! SEED=NUMBER which; it prints what was met (`cargo test --test damaged -- --nocapture`).
+
+mod theirs;
+
+use sorghemi::raw::Run;
+use sorghemi::{Batch, Job, Mode, Record, Report, Step};
+use std::collections::BTreeMap;
+use theirs::Both;
+
+/// A small generator of random numbers, the same in every run.
+pub struct Random(u64);
+
+impl Random {
+    fn below(&mut self, limit: usize) -> usize {
+        self.0 ^= self.0 << 13;
+        self.0 ^= self.0 >> 7;
+        self.0 ^= self.0 << 17;
+        (self.0 >> 11) as usize % limit
+    }
+
+    fn one_in(&mut self, chance: usize) -> bool {
+        self.below(chance) == 0
+    }
+
+    fn height(&mut self) -> i32 {
+        self.below(4000) as i32 - 2000
+    }
+
+    /// A number below the limit, and sometimes one that is not.
+    fn around(&mut self, limit: usize) -> usize {
+        match self.below(20) {
+            0 => limit,
+            1 => 255,
+            2 => usize::MAX - self.below(2),
+            _ => self.below(limit.max(1)),
+        }
+    }
+
+    fn report(&mut self) -> Report {
+        let wrote = if self.one_in(20) { self.below(256) as u8 } else { self.below(2) as u8 };
+        Report { values: [(); 4].map(|_| self.height()), wrote }
+    }
+
+    /// A job on the cells that inserting mostly takes: of kind 0 with any accesses, or of another kind with its own modes.
+    fn job(&mut self, cells: usize) -> Job {
+        let mut left: Vec<u8> = (0..cells as u8).collect();
+        let mut cell = || left.swap_remove(self.below(left.len()));
+        let (a, b, c) = match cells {
+            1 => (0, 0, 0),
+            2 => (cell(), cell(), 0),
+            _ => (cell(), cell(), cell()),
+        };
+        let modes = [Mode::Read, Mode::Write, Mode::MaybeWrite];
+        match self.below(8) {
+            0 => Job::set(a, self.height()),
+            1 | 2 => Job::shift(a, self.height()),
+            3 => Job::spike(a, b, self.below(2000) as i32),
+            4 => Job::floor(a, self.height()),
+            5 => Job::mean(a, b, c),
+            6 => Job::pair(a, b),
+            _ => {
+                let accesses = [a, b, c].map(|cell| (cell, modes[self.below(3)]));
+                Job::outside(&accesses[..1 + self.below(3)])
+            }
+        }
+    }
+}
+
+/// A valid record somewhere on its way: some cells and jobs, mostly sealed, after some steps of the chooser and some reports.
+fn valid_record(random: &mut Random) -> Record {
+    let cells = if random.one_in(10) { 64 } else { 1 + random.below(6) };
+    let heights: Vec<i32> = (0..cells).map(|_| random.height()).collect();
+    let mut batch = Batch::open(&heights).unwrap();
+    let jobs = if random.one_in(20) { 128 } else { random.below(24) };
+    for _ in 0..jobs {
+        let _ = batch.insert(random.job(cells));
+    }
+    if random.one_in(20) {
+        return *batch.record();
+    }
+    batch.seal(!random.one_in(8)).unwrap();
+    let mut out = Vec::new();
+    for _ in 0..random.below(3 * jobs + 1) {
+        let choice = if random.one_in(3) { None } else { batch.choose().ok() };
+        if let Some(choice) = choice {
+            let _ = batch.step(choice.step, choice.job, Report::default());
+            if choice.step != Step::Commit {
+                out.push((choice.step, choice.job));
+            }
+        } else if !out.is_empty() {
+            let (start, job) = out.swap_remove(random.below(out.len()));
+            let step = if start == Step::StartOwn { Step::ReportOwn } else { Step::ReportSpeculation };
+            let report = Report { wrote: random.one_in(3) as u8, ..random.report() };
+            // A job without mode 2 has mark 0.
+            if batch.step(step, job, report).is_err() {
+                let _ = batch.step(step, job, Report { wrote: 0, ..report });
+            }
+        }
+    }
+    *batch.record()
+}
+
+/// A byte of the record at random: of any place, or of a place in use, where it matters.
+fn place(record: &Record, random: &mut Random) -> usize {
+    use std::mem::{offset_of, size_of};
+    let job = random.below(record.job_count.max(1) as usize);
+    match random.below(8) {
+        0 | 1 => random.below(Record::SIZE),
+        2 => random.below(offset_of!(Record, cells)),
+        3 => offset_of!(Record, jobs) + job * size_of::<Job>() + random.below(size_of::<Job>()),
+        4 => offset_of!(Record, runs) + job * size_of::<Run>() + random.below(size_of::<Run>()),
+        5 => offset_of!(Record, committed) + job,
+        6 => offset_of!(Record, running) + job,
+        _ => offset_of!(Record, phase) + job,
+    }
+}
+
+/// The record with one to three of its bytes changed: to another number in its list, to any number, or in one bit.
+fn damaged(record: &Record, random: &mut Random) -> Record {
+    let mut bytes = record.to_bytes();
+    for _ in 0..1 + random.below(3) {
+        let byte = &mut bytes[place(record, random)];
+        *byte = match random.below(3) {
+            0 => random.below(4) as u8,
+            1 => random.below(256) as u8,
+            _ => *byte ^ (1 << random.below(8)),
+        };
+    }
+    Record::from_bytes(&bytes)
+}
+
+/// A job for the step: mostly one in the state for it, if there is one; else any, and sometimes a number that no job has.
+fn job_for(number: u8, record: &Record, random: &mut Random) -> usize {
+    let jobs = record.job_count.clamp(1, 128) as usize;
+    let fits = |&j: &usize| match number {
+        0 => record.committed[j] == 0 && record.running[j] == 0,
+        1 => record.committed[j] == 0 && record.running[j] == 0 && record.phase[j] == 0,
+        2 => record.running[j] == 1,
+        3 => record.phase[j] == 1,
+        _ => record.committed[j] == 0 && record.phase[j] == 2,
+    };
+    let fitting: Vec<usize> = (0..jobs).filter(fits).collect();
+    if fitting.is_empty() || random.one_in(4) {
+        return random.around(jobs);
+    }
+    fitting[random.below(fitting.len())]
+}
+
+/// Calls every entry on the record, each on a copy of its own, and then some steps one after the other.
+fn try_every_entry(record: &Record, random: &mut Random) -> Vec<(&'static str, u8)> {
+    let cells = record.cell_count.clamp(1, 64) as usize;
+    let jobs = record.job_count.clamp(1, 128) as usize;
+    let mut met = Vec::new();
+    let mut both = Both::of(record);
+    met.push(("choose", both.choose()));
+    met.push(("ask batch", both.ask_batch()));
+    met.push(("ask cell", both.ask_cell(random.around(cells))));
+    met.push(("ask job", both.ask_job(random.around(jobs))));
+    met.push(("copy out", both.copy_out(random.around(cells + 4), random.around(4))));
+    met.push(("insert", Both::of(record).insert(random.job(cells))));
+    met.push(("seal", Both::of(record).seal(random.below(3) as u8)));
+    for number in 0..6 {
+        let name = ["step 0", "step 1", "step 2", "step 3", "step 4", "step 5"][number as usize];
+        met.push((name, Both::of(record).step(number, job_for(number, record, random), random.report())));
+    }
+    for _ in 0..4 {
+        let number = random.below(5) as u8;
+        let answer = both.step(number, job_for(number, &both.ours, random), random.report());
+        met.push(("a further step", answer));
+    }
+    met
+}
+
+#[test]
+fn damaged_records_are_refused_or_answered_soundly() {
+    let setting = |name: &str, otherwise: u64| std::env::var(name).map_or(otherwise, |text| text.parse().unwrap());
+    let (count, seed) = (setting("DAMAGED", 2000), setting("SEED", 1));
+    let mut random = Random(seed.wrapping_mul(0x9e3779b97f4a7c15) | 1);
+    let mut met: BTreeMap<(&str, u8), u64> = BTreeMap::new();
+    let mut valid = valid_record(&mut random);
+    for n in 0..count {
+        if n % 16 == 0 {
+            valid = valid_record(&mut random);
+        }
+        let record = damaged(&valid, &mut random);
+        for answer in try_every_entry(&record, &mut random) {
+            *met.entry(answer).or_default() += 1;
+        }
+    }
+    println!("{count} damaged records of seed {seed}, every answer and record the second hand's. Answers met:");
+    for ((entry, answer), times) in &met {
+        println!("  {entry} {answer}: {times}");
+    }
+    let of = |entry, answer| met.get(&(entry, answer)).copied().unwrap_or(0);
+    assert!(of("ask batch", 32) > count / 10 && of("ask batch", 0) > count / 10, "both sorts of records have to come up");
+}

@@ -1,0 +1,127 @@
+//! One record in two hands: each call is made on both, and what they answer and leave has to be the same.
+
+use second_hand::record;
+use sorghemi::raw::*;
+use sorghemi::{Job, Record, Report};
+
+pub struct Both {
+    pub ours: Record,
+    theirs: record::Record,
+}
+
+/// The library's record as the second hand reads it.
+fn read(record: &Record) -> record::Record {
+    record::Record::from_bytes(&record.to_bytes())
+}
+
+fn read_job(job: &Job) -> record::Job {
+    record::Job {
+        kind: job.kind,
+        parameter: job.parameter,
+        arity: job.arity,
+        accesses: job.accesses.map(|access| (access.cell, access.mode)),
+    }
+}
+
+impl Both {
+    pub fn of(record: &Record) -> Both {
+        Both { ours: *record, theirs: read(record) }
+    }
+
+    /// The records after a call are the same; where not, the columns of the first job that differs are shown.
+    fn same_record(&self, call: &str) {
+        let ours = read(&self.ours);
+        let column = |r: &record::Record, j: usize| (r.jobs[j], r.runs[j], r.committed[j], r.running[j], r.phase[j]);
+        for j in 0..128 {
+            assert_eq!(column(&ours, j), column(&self.theirs, j), "job {j} after {call}");
+        }
+        assert_eq!(ours, self.theirs, "after {call}");
+    }
+
+    pub fn insert(&mut self, job: Job) -> u8 {
+        let answer = unsafe { sorghemi_insert(self.ours, job) };
+        assert_eq!(answer.refusal, self.theirs.insert(read_job(&job)), "insert {job:?} into {:?}", self.ours);
+        self.ours = answer.batch;
+        self.same_record("insert");
+        answer.refusal
+    }
+
+    pub fn seal(&mut self, guessing: u8) -> u8 {
+        let answer = unsafe { sorghemi_seal(self.ours, guessing) };
+        assert_eq!(answer.refusal, self.theirs.seal(guessing));
+        self.ours = answer.batch;
+        self.same_record("seal");
+        answer.refusal
+    }
+
+    /// The step in the lent form and by value.
+    pub fn step(&mut self, number: u8, job: usize, report: Report) -> u8 {
+        let before = self.ours;
+        let by_value = unsafe { sorghemi_step_by_value(before, number, job, report) };
+        let handed = unsafe { sorghemi_step(&mut self.ours, number, job, report) };
+        let theirs = self.theirs.step(number, job, report.values, report.wrote);
+        assert_eq!((handed.refusal, handed.values), theirs, "step {number} of job {job}, {report:?}, of {before:?}");
+        assert_eq!((by_value.handed, by_value.batch), (handed, self.ours));
+        self.same_record(&format!("step {number} of job {job}"));
+        handed.refusal
+    }
+
+    pub fn choose(&self) -> u8 {
+        let ours = unsafe { sorghemi_choose(self.ours) };
+        assert_eq!((ours.refusal, ours.step, ours.job, ours.chain), self.theirs.choose(), "choose of {:?}", self.ours);
+        ours.refusal
+    }
+
+    pub fn ask_cell(&self, cell: usize) -> u8 {
+        let ours = unsafe { sorghemi_ask_cell(self.ours, cell) };
+        assert_eq!((ours.refusal, ours.height), self.theirs.ask_cell(cell));
+        ours.refusal
+    }
+
+    pub fn ask_job(&self, job: usize) -> u8 {
+        let ours = unsafe { sorghemi_ask_job(self.ours, job) };
+        let theirs = self.theirs.ask_job(job);
+        assert_eq!(
+            (
+                ours.refusal,
+                ours.committed,
+                ours.wrote,
+                ours.running,
+                ours.phase,
+                ours.handed,
+                ours.reported,
+                read_job(&ours.job)
+            ),
+            (
+                theirs.refusal,
+                theirs.committed,
+                theirs.wrote,
+                theirs.running,
+                theirs.phase,
+                theirs.handed,
+                theirs.reported,
+                theirs.job
+            )
+        );
+        ours.refusal
+    }
+
+    pub fn ask_batch(&self) -> u8 {
+        let ours = unsafe { sorghemi_ask_batch(self.ours) };
+        let theirs = self.theirs.ask_batch();
+        assert_eq!(
+            (ours.refusal, ours.cell_count, ours.job_count, ours.sealed, ours.speculating, ours.finished),
+            (theirs.refusal, theirs.cell_count, theirs.job_count, theirs.sealed, theirs.speculating, theirs.finished)
+        );
+        ours.refusal
+    }
+
+    pub fn copy_out(&self, size: usize, at: usize) -> u8 {
+        let size = size.min(200);
+        let (mut ours, mut theirs) = (vec![-7; size], vec![-7; size]);
+        let refusal = unsafe { sorghemi_copy_out(self.ours, ours.as_mut_ptr(), size, at) };
+        assert_eq!(refusal, self.theirs.copy_out(&mut theirs, at));
+        assert_eq!(ours, theirs);
+        refusal
+    }
+}
