@@ -7,6 +7,7 @@ pub mod engine;
 pub mod frame;
 pub mod kinds;
 pub mod plan;
+pub mod record;
 
 /// The whole output of the program for one whole input.
 pub fn answer(input: &[u8]) -> Vec<u8> {

@@ -103,7 +103,8 @@ fn step_passes(
 }
 
 impl Batch {
-    /// The job to take the step on. Only step 1 asks where the values would come from, a walk back for each job.
+    /// The job to take the step on. Only step 1 asks where the values would come from: it notes the nearest writers as it
+    /// goes, in place of a walk back from each job.
     fn pick_for(self, step: u8, ready: [bool; 128], invalid: [bool; 128], chains: [u8; 128]) -> Pick
         requires { ⌜ Surveyed self ready invalid chains ⌝ }
         ensures { λ r. ⌜ r ≡ pickFor self (stepCall step) ⌝ }
@@ -113,6 +114,7 @@ impl Batch {
         let jobs = self.jobs;
         let committed = self.committed;
         let phases = self.phase;
+        let mut nearest = [0u8; 256];
         let mut pick = Pick { job: 0, chain: 0 };
         let mut j: usize = 0;
         while j < n {
@@ -124,8 +126,10 @@ impl Batch {
             let chain = chains[j];
             let mut missing = false;
             if step == 1 {
-                let sources = walk::sources(jobs, committed, j);
+                let job = jobs[j];
+                let sources = walk::nearest::sources_by(job, &nearest);
                 missing = unusable_any(sources, &phases, &invalid);
+                walk::nearest::note_job(job, how, (j + 1) as u8, &mut nearest);
             }
             let allowed = step_passes(step, on, how, running, phase, is_ready, is_invalid, missing);
             let next = better(pick, allowed, j as u8, chain);

@@ -6,10 +6,10 @@ ghost use mathlib.Core.Path.{_≡_};
 ghost use mathlib.Core.Bool.{not, false};
 ghost use Prim.Native.Nat.{_<_, max, min};
 ghost use Rattle.laws.specs.Fold.{column, flag};
-ghost use Rattle.dependence.specs.Job.{accessAt};
+ghost use Rattle.dependence.specs.Job.{accessAt, ByteCells};
 ghost use Rattle.dependence.specs.Ready.{isCommitted, ready};
 ghost use Rattle.passes.specs.Chain.{chainLengthAt};
-ghost use Rattle.passes.specs.Tables.{ByteCells, metAt, met, noteAt, noted};
+ghost use Rattle.passes.specs.Tables.{metAt, met, noteAt, noted};
 use dependence::Access;
 use dependence::Job;
 

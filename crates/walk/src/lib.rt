@@ -10,6 +10,8 @@ ghost use Rattle.walk.specs.Sources.{writesAt, openWriter, sourceFor, so
 use dependence::Job;
 use jobset::JobSet;
 
+pub mod nearest;
+
 /// Whether the job's access at place `i` is to the cell and has the mode.
 fn writes_at(job: Job, cell: u8, mode: u8, i: usize) -> bool
     requires { ⌜ i < 4 ⌝ }

@@ -1,23 +1,31 @@
 -- `Batch::pick_for` meets its contract: the pick among the jobs before j, a job a turn.
 use native.Mathlib.Omega.{arith}
 use borrow.Author.Needs.{needs}
-use Prim.Native.Nat.{_≤_, _<_, _-_}
+use Prim.Native.Nat.{_≤_, _<_, _+_, _-_}
 use mathlib.Core.Logic.{⊎-elim}
 use mathlib.Core.Path.{_≡_, refl, ap, _∙_}
 use lib.ListN.{length}
 use Rattle.laws.specs.Fold.{length-column}
+use Rattle.rules.specs.Speculation.{sourceMissing}
+use Rattle.walk.specs.Nearest.{nearestBefore}
+use Rattle.walk.specs.NearestLaws.{nearest-none, nearest-more, nearest-sources}
+use Rattle.engine.specs.Record.{snapshotOf}
 use Rattle.engine.specs.SourceMissing.{missing-is}
 use Rattle.engine.specs.ChooserPass.{stepCall, pickBefore, pick-none, pick-step, step-is}
 use Rattle.engine.proofs.Batch.pick_for.Statement.{statement}
 use Rattle.engine.proofs.Batch.pick_for.Tie as tie
 
--- the best of the jobs before j
+-- the best of the jobs before j; for step 1 also the nearest writers among them
 abbrev Inv-loop : tie.InvT-loop
-Inv-loop step self ready invalid chains n on jobs committed phases pick₀ j₀ pick j =
-    (j ≤ n) × (n ≤ 128) × (n ≡ self .«job_count») × (pick ≡ pickBefore self (stepCall step) j)
+Inv-loop step self ready invalid chains n on jobs committed phases nearest₀ pick₀ j₀ nearest pick j =
+    (j ≤ n)
+    × (n ≤ 128)
+    × (n ≡ self .«job_count»)
+    × (pick ≡ pickBefore self (stepCall step) j)
+    × (step ≡ 1 → nearest ≡ nearestBefore (self .jobs) (self .committed) j)
 
 abbrev μ-loop : tie.MeasureT-loop
-μ-loop step self ready invalid chains n on jobs committed phases pick₀ j₀ pick j = n - j
+μ-loop step self ready invalid chains n on jobs committed phases nearest₀ pick₀ j₀ nearest pick j = n - j
 
 cast-n : tie.Need-cast-n Inv-loop μ-loop
 cast-n c = omega arith
@@ -26,7 +34,8 @@ cast-n c = omega arith
 loop-holds : tie.Need-loop-holds Inv-loop μ-loop
 loop-holds c =
     let s = c .before .before .before in
-    (omega arith, s .pre .few, refl, pick-none (s .args .t1) (stepCall (s .args .step)))
+    let b = s .args .t1 in
+    (omega arith, s .pre .few, refl, pick-none b (stepCall (s .args .step)), λ one. nearest-none (b .jobs) (b .committed))
 
 array-read-how : tie.Need-array-read-how Inv-loop μ-loop
 array-read-how c = omega arith
@@ -46,15 +55,30 @@ array-read-is-invalid c = omega arith
 array-read-chain : tie.Need-array-read-chain Inv-loop μ-loop
 array-read-chain c = omega arith
 
-sources-requires : tie.Need-sources-requires Inv-loop μ-loop
-sources-requires c κs = search needs
+mul-job : tie.Need-mul-job Inv-loop μ-loop
+mul-job c = omega arith
+
+array-copy-out-job : tie.Need-array-copy-out-job Inv-loop μ-loop
+array-copy-out-job c = omega arith
+
+sources-by-requires : tie.Need-sources-by-requires Inv-loop μ-loop
+sources-by-requires c κs = search needs
 
 -- both columns have 128 places
 unusable-any-requires : tie.Need-unusable-any-requires Inv-loop μ-loop
 unusable-any-requires c κs =
-    let s = c .before .before .before .before .before .before .before .before .before .before in
+    let s = c .before .before .before .before .before .before .before .before .before .before .before .before in
     let long : length (s .args .t1 .phase) ≡ 128 = search needs in
     (long, ap length (s .pre .invalid-are) ∙ length-column 128 _ _ _)
+
+add-note-job : tie.Need-add-note-job Inv-loop μ-loop
+add-note-job c = omega arith
+
+cast-note-job : tie.Need-cast-note-job Inv-loop μ-loop
+cast-note-job c = omega arith
+
+note-job-requires : tie.Need-note-job-requires Inv-loop μ-loop
+note-job-requires c κs = search needs
 
 step-passes-requires : tie.Need-step-passes-requires Inv-loop μ-loop
 step-passes-requires c κs = search needs
@@ -71,27 +95,33 @@ add-j c = omega arith
 loop-less : tie.Need-loop-less Inv-loop μ-loop
 loop-less c = omega arith
 
--- the turn of job j; step 1 has walked back from it
+-- the turn of job j; step 1 has read its sources in the table and noted it there
 loop-again : tie.Need-loop-again Inv-loop μ-loop
 loop-again c =
     let m = c .before .before in
     let l = m .before .before .before .loop in
     let s = m .before .before .before .before .before .before .before in
     let a = s .args in
-    let held : l .j < a .t1 .«job_count» = omega arith in (
+    let held : l .j < a .t1 .«job_count» = omega arith in
+    let turn : a .step ≡ 1
+    → (m .if1 .missing ≡ sourceMissing (snapshotOf (a .t1)) (l .j))
+    × (m .if1 .nearest ≡ nearestBefore (a .t1 .jobs) (a .t1 .committed) (l .j + 1)) = λ one.
+    ⊎-elim
+    (λ w.
+    let from = w .3 .ensures .0 ∙ rw (l .inv .4 one) (nearest-sources (a .t1 .jobs) (a .t1 .committed) (l .j) (w .3 .ensures .1)) in (
+      w .10 ∙ w .6 .ensures ∙ missing-is (a .t1) (l .j) (w .3 .result) (a .t4) held (s .pre .few) from (s .pre .invalid-are),
+      w .9 ∙ w .8 .ensures ∙ rw (l .inv .4 one) (nearest-more (a .t1 .jobs) (a .t1 .committed) (l .j)),
+    ))
+    (λ w. absurd (w .0 .left one))
+    (m .if1 .came) in (
       omega arith,
       l .inv .1,
       l .inv .2,
       pick-step (a .t1) (a .t3) (a .t4) (a .t5) (s .pre) (l .j) held (stepCall (a .step)) (l .pick) (c .better .result)
           (c .before .step-passes .result) (l .inv .3)
-          (step-is (a .t1) (a .t3) (a .t4) (a .t5) (s .pre) (l .j) held (a .step)
-          (λ one.
-          ⊎-elim
-          (λ w. w .5 ∙ w .4 .ensures ∙ missing-is (a .t1) (l .j) (w .1 .result) (a .t4) held (s .pre .few) (w .1 .ensures) (s .pre .invalid-are))
-          (λ w. absurd (w .0 .left one))
-          (m .if1 .came))
-          (c .before .step-passes .ensures))
+          (step-is (a .t1) (a .t3) (a .t4) (a .t5) (s .pre) (l .j) held (a .step) (λ one. turn one .0) (c .before .step-passes .ensures))
           (c .better .ensures),
+      λ one. turn one .1,
     )
 
 -- all jobs
@@ -115,8 +145,13 @@ pick-for-spec =
     array-read-is-ready
     array-read-is-invalid
     array-read-chain
-    sources-requires
+    mul-job
+    array-copy-out-job
+    sources-by-requires
     unusable-any-requires
+    add-note-job
+    cast-note-job
+    note-job-requires
     step-passes-requires
     cast-better
     better-requires

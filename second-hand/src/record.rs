@@ -1,0 +1,861 @@
+//! The engine of document 01 on a batch record as it stands in memory.
+//!
+//! `engine` keeps its batch closed, so there a state that no list of calls leads
+//! to cannot come up. Here it can: the record lies with the host, field by field
+//! as the C header `sorghemi.h` has it, and anybody may have written into it. So
+//! nothing is taken for granted but what the fields say. A record out of form is
+//! refused with 32; on any other the sentences of document 01 (in quotation
+//! marks) are applied to the fields one by one, whether or not some list of calls
+//! leads there. Sentences of the header are marked "Header:".
+//!
+//! "A refusal changes nothing. If several apply, the lowest number is given, but
+//! 32 goes before all": in each operation the checks stand in that order, and all
+//! of them before the first change.
+
+use std::ops::Range;
+
+use crate::kinds;
+
+const READ: u8 = 0;
+const WRITE: u8 = 1;
+const MAYBE: u8 = 2;
+
+const START_OWN: u8 = 0;
+const START_GUESS: u8 = 1;
+const REPORT_OWN: u8 = 2;
+const REPORT_GUESS: u8 = 3;
+const SETTLE: u8 = 4;
+
+const MOST_CELLS: u8 = 64;
+const MOST_JOBS: u8 = 128;
+
+/// Header: "how the job is settled: 0 not yet, 1 by its own run, 2 by its guess"
+const NOT_SETTLED: u8 = 0;
+const BY_OWN_RUN: u8 = 1;
+const BY_GUESS: u8 = 2;
+
+/// Header: "the job's guess: 0 never started, 1 out, 2 with a stored report, 3
+/// thrown away"
+const NEVER_STARTED: u8 = 0;
+const OUT: u8 = 1;
+const STORED: u8 = 2;
+const THROWN_AWAY: u8 = 3;
+
+/// "unused places are 0"
+const ZEROS: [i32; 4] = [0; 4];
+
+/// Header: "A batch. The first `cell_count` cells and the first `job_count`
+/// places of each column are in use; what stands in the other places is never
+/// looked at." The bytes between the fields are not held at all.
+#[derive(Clone, PartialEq, Eq, Debug)]
+pub struct Record {
+    pub cell_count: u8,
+    pub job_count: u8,
+    /// Header: "1 once the list of jobs is sealed, else 0"
+    pub sealed: u8,
+    /// Header: "1 if guesses may be started, else 0"
+    pub speculating: u8,
+    pub cells: [i32; 64],
+    /// Always 128.
+    pub jobs: Vec<Job>,
+    /// Always 128.
+    pub runs: Vec<Run>,
+    pub committed: [u8; 128],
+    /// Header: "1 while the job's own run is out, else 0"
+    pub running: [u8; 128],
+    pub phase: [u8; 128],
+}
+
+/// Header: "A job as inserted: its kind, the kind's parameter, and its accesses.
+/// The first `arity` places are in use." An access is a cell and a mode.
+#[derive(Clone, Copy, PartialEq, Eq, Debug, Default)]
+pub struct Job {
+    pub kind: u8,
+    pub parameter: i32,
+    pub arity: u8,
+    pub accesses: [(u8, u8); 4],
+}
+
+/// Header: "A job holds one run at a time, its own or its guess."
+#[derive(Clone, Copy, PartialEq, Eq, Debug, Default)]
+pub struct Run {
+    pub handed: [i32; 4],
+    pub reported: [i32; 4],
+    /// The report's mark.
+    pub wrote: u8,
+    /// Header: "for each access one more than the number of the job whose guess
+    /// the value was taken from, 0 for the cell itself"
+    pub sources: [u8; 4],
+    /// Header: "the jobs that it looked past"; bit j is job j.
+    pub bypassed: u128,
+}
+
+/// Header: "How a job stands: the columns and the run's values as the record has
+/// them, and the job as inserted. `wrote` is the mark of a settled job, and 0
+/// before that. Zeros where it is refused."
+#[derive(Clone, Copy, PartialEq, Eq, Debug, Default)]
+pub struct JobAnswer {
+    pub refusal: u8,
+    pub committed: u8,
+    pub wrote: u8,
+    pub running: u8,
+    pub phase: u8,
+    pub handed: [i32; 4],
+    pub reported: [i32; 4],
+    pub job: Job,
+}
+
+/// Header: "How the batch stands: finished once it is sealed and every job
+/// settled. Zeros where it is refused."
+#[derive(Clone, Copy, PartialEq, Eq, Debug, Default)]
+pub struct BatchAnswer {
+    pub refusal: u8,
+    pub cell_count: u8,
+    pub job_count: u8,
+    pub sealed: u8,
+    pub speculating: u8,
+    pub finished: bool,
+}
+
+// ---------------------------------------------------------------------------
+// The record in memory: the header's structs on x86-64
+
+const CELLS_AT: usize = 4;
+const JOBS_AT: usize = 260;
+const JOB_SIZE: usize = 20;
+const RUNS_AT: usize = 2824;
+const RUN_SIZE: usize = 56;
+const COMMITTED_AT: usize = 9992;
+const RUNNING_AT: usize = 10120;
+const PHASE_AT: usize = 10248;
+
+fn height_at(bytes: &[u8], at: usize) -> i32 {
+    i32::from_le_bytes([bytes[at], bytes[at + 1], bytes[at + 2], bytes[at + 3]])
+}
+
+fn four_heights_at(bytes: &[u8], at: usize) -> [i32; 4] {
+    [0, 4, 8, 12].map(|further| height_at(bytes, at + further))
+}
+
+fn column_at(bytes: &[u8], at: usize) -> [u8; 128] {
+    let mut column = [0; 128];
+    column.copy_from_slice(&bytes[at..at + 128]);
+    column
+}
+
+impl Job {
+    /// Kind at 0, parameter at 4, arity at 8, accesses of two bytes each at 9.
+    fn from_bytes(bytes: &[u8]) -> Job {
+        Job {
+            kind: bytes[0],
+            parameter: height_at(bytes, 4),
+            arity: bytes[8],
+            accesses: [9, 11, 13, 15].map(|at| (bytes[at], bytes[at + 1])),
+        }
+    }
+}
+
+impl Run {
+    /// Handed at 0, reported at 16, wrote at 32, sources at 33, bypassed at 40,
+    /// of which the header says: "bit j of `low` is job j, bit j of `high` is job
+    /// 64 + j".
+    fn from_bytes(bytes: &[u8]) -> Run {
+        let mut bypassed = 0;
+        for (place, byte) in bytes[40..56].iter().enumerate() {
+            bypassed |= u128::from(*byte) << (8 * place);
+        }
+        Run {
+            handed: four_heights_at(bytes, 0),
+            reported: four_heights_at(bytes, 16),
+            wrote: bytes[32],
+            sources: [bytes[33], bytes[34], bytes[35], bytes[36]],
+            bypassed,
+        }
+    }
+}
+
+impl Record {
+    /// The bytes of one record.
+    pub const SIZE: usize = 10376;
+
+    /// The record that lies in these bytes. Panics if they are not `SIZE`.
+    pub fn from_bytes(bytes: &[u8]) -> Record {
+        assert_eq!(bytes.len(), Record::SIZE, "the bytes of one record");
+        let mut cells = [0; 64];
+        for (cell, height) in cells.iter_mut().enumerate() {
+            *height = height_at(bytes, CELLS_AT + 4 * cell);
+        }
+        let jobs = bytes[JOBS_AT..].chunks(JOB_SIZE).take(128);
+        let runs = bytes[RUNS_AT..].chunks(RUN_SIZE).take(128);
+        Record {
+            cell_count: bytes[0],
+            job_count: bytes[1],
+            sealed: bytes[2],
+            speculating: bytes[3],
+            cells,
+            jobs: jobs.map(Job::from_bytes).collect(),
+            runs: runs.map(Run::from_bytes).collect(),
+            committed: column_at(bytes, COMMITTED_AT),
+            running: column_at(bytes, RUNNING_AT),
+            phase: column_at(bytes, PHASE_AT),
+        }
+    }
+
+    /// The record that an accepted opening hands back, "unsealed and without
+    /// jobs". None stands for "1: cell count not 1 to 64".
+    pub fn open(heights: &[i32]) -> Option<Record> {
+        if heights.is_empty() || heights.len() > usize::from(MOST_CELLS) {
+            return None;
+        }
+        let mut cells = [0; 64];
+        cells[..heights.len()].copy_from_slice(heights);
+        Some(Record {
+            cell_count: heights.len() as u8,
+            job_count: 0,
+            sealed: 0,
+            speculating: 0,
+            cells,
+            jobs: vec![Job::default(); 128],
+            runs: vec![Run::default(); 128],
+            committed: [0; 128],
+            running: [0; 128],
+            phase: [0; 128],
+        })
+    }
+}
+
+// ---------------------------------------------------------------------------
+// Jobs and runs by themselves
+
+impl Job {
+    /// The accesses in use. Only for a job that is not refused with 4.
+    fn used(&self) -> &[(u8, u8)] {
+        &self.accesses[..usize::from(self.arity)]
+    }
+
+    /// The place of this cell among the accesses in use, and its mode there.
+    fn access_to(&self, cell: u8) -> Option<(usize, u8)> {
+        let place = self.used().iter().position(|access| access.0 == cell)?;
+        Some((place, self.accesses[place].1))
+    }
+
+    /// The cells of the accesses in use: bit c is cell c.
+    fn cells(&self) -> u64 {
+        self.used()
+            .iter()
+            .fold(0, |set, &(cell, _)| set | 1 << cell)
+    }
+
+    /// The cells of those accesses in use that are not a read.
+    fn cells_not_read(&self) -> u64 {
+        let not_read = self.used().iter().filter(|access| access.1 != READ);
+        not_read.fold(0, |set, &(cell, _)| set | 1 << cell)
+    }
+
+    fn has_maybe_write(&self) -> bool {
+        self.used().iter().any(|access| access.1 == MAYBE)
+    }
+
+    /// With which of 4 to 8 inserting refuses this job; 0 with none of them.
+    fn refusal(&self, cell_count: u8) -> u8 {
+        // "4: access count not 1 to 4."
+        if self.arity < 1 || self.arity > 4 {
+            return 4;
+        }
+        let used = self.used();
+        // "5: cell number not below the cell count."
+        if used.iter().any(|&(cell, _)| cell >= cell_count) {
+            return 5;
+        }
+        // "6: mode not 0 to 2."
+        if used.iter().any(|&(_, mode)| mode > MAYBE) {
+            return 6;
+        }
+        // "7: a cell twice in a job."
+        for (place, access) in used.iter().enumerate() {
+            if used[..place].iter().any(|before| before.0 == access.0) {
+                return 7;
+            }
+        }
+        // "8: kind not 0 to 6, or modes not those of the kind"; kind 0 is free.
+        if self.kind > 6 {
+            return 8;
+        }
+        if let Some(modes) = kinds::modes(u32::from(self.kind)) {
+            if !used
+                .iter()
+                .map(|access| u32::from(access.1))
+                .eq(modes.iter().copied())
+            {
+                return 8;
+            }
+        }
+        0
+    }
+}
+
+impl Run {
+    /// The jobs whose guesses this run took from. All four places of `sources`
+    /// are looked at, also those past the job's accesses (README, point 43).
+    fn took_from(&self) -> impl Iterator<Item = usize> + '_ {
+        let named = self.sources.iter().filter(|&&source| source != 0);
+        named.map(|&source| usize::from(source) - 1)
+    }
+
+    fn looked_past(&self, job: usize) -> bool {
+        self.bypassed >> job & 1 == 1
+    }
+}
+
+/// Whether a report with this mark writes the cell of an access of this mode: "A
+/// job's write cells get the values of its counted report, its maybe-write cells
+/// too if the mark is 1; all other cells stay."
+fn is_written(mode: u8, mark: u8) -> bool {
+    mode == WRITE || (mode == MAYBE && mark == 1)
+}
+
+// ---------------------------------------------------------------------------
+// "32: the record is out of form"
+
+impl Record {
+    /// Whether 32 does not apply. Looked at are the counts, the two states of the
+    /// batch, and the held jobs, each with its run and its columns.
+    pub fn in_form(&self) -> bool {
+        // "a count outside its limits": "A batch has 1 to 64 cells ... and 0 to
+        // 128 jobs". Those of accesses belong to refusal 4 of the held job.
+        let cells = 1 <= self.cell_count && self.cell_count <= MOST_CELLS;
+        let jobs = self.job_count <= MOST_JOBS;
+        // "a state ... outside its list"
+        let states = self.sealed <= 1 && self.speculating <= 1;
+        cells && jobs && states && self.held().all(|job| self.held_job_in_form(job))
+    }
+
+    fn held_job_in_form(&self, job: usize) -> bool {
+        // "a held job that inserting would refuse with 4 to 8"
+        let sound = self.jobs[job].refusal(self.cell_count) == 0;
+        // "a state ... outside its list"
+        let states = self.committed[job] <= BY_GUESS
+            && self.running[job] <= 1
+            && self.phase[job] <= THROWN_AWAY;
+        // "a ... mark outside its list": "1 if the maybe-write cells were
+        // written, else 0", whatever the job's modes (README, point 39).
+        let run = &self.runs[job];
+        let mark = run.wrote <= 1;
+        // "a guess that looked past or took from a job not before its own":
+        // judged of every held job, whatever its phase.
+        let past = run.bypassed >> job == 0; // no bit from the job's own on
+        let taken = run.took_from().all(|other| other < job);
+        sound && states && mark && past && taken
+    }
+
+    fn held(&self) -> Range<usize> {
+        0..usize::from(self.job_count)
+    }
+}
+
+// ---------------------------------------------------------------------------
+// Inserting and sealing
+
+impl Record {
+    pub fn insert(&mut self, job: Job) -> u8 {
+        if !self.in_form() {
+            return 32;
+        }
+        // "2: insert or seal after sealing."
+        if self.sealed == 1 {
+            return 2;
+        }
+        // "3: 128 jobs are held."
+        if self.job_count == MOST_JOBS {
+            return 3;
+        }
+        let refusal = job.refusal(self.cell_count);
+        if refusal != 0 {
+            return refusal;
+        }
+        // Header: "the job comes into the first place not in use, with zeros in
+        // its run and in the other columns; job_count grows." Also the accesses
+        // not in use are "held as given".
+        let place = usize::from(self.job_count);
+        self.jobs[place] = job;
+        self.runs[place] = Run::default();
+        self.committed[place] = NOT_SETTLED;
+        self.running[place] = 0;
+        self.phase[place] = NEVER_STARTED;
+        self.job_count += 1;
+        0
+    }
+
+    pub fn seal(&mut self, guessing: u8) -> u8 {
+        if !self.in_form() {
+            return 32;
+        }
+        // "2: insert or seal after sealing."
+        if self.sealed == 1 {
+            return 2;
+        }
+        // "9: guess switch not 0 or 1."
+        if guessing > 1 {
+            return 9;
+        }
+        // "Sealing fixes the list and says guessing off (0) or on (1)."
+        self.sealed = 1;
+        self.speculating = guessing;
+        0
+    }
+}
+
+// ---------------------------------------------------------------------------
+// The rules between jobs
+
+/// The rules on one record in form. What they ask again and again is worked out
+/// once: of every held job its cells, those it does not only read, and whether
+/// its guess has fallen.
+struct Rules<'a> {
+    record: &'a Record,
+    cells: Vec<u64>,
+    cells_not_read: Vec<u64>,
+    fallen: Vec<bool>,
+}
+
+impl<'a> Rules<'a> {
+    fn of(record: &'a Record) -> Rules<'a> {
+        let jobs = &record.jobs[record.held()];
+        let mut rules = Rules {
+            record,
+            cells: jobs.iter().map(Job::cells).collect(),
+            cells_not_read: jobs.iter().map(Job::cells_not_read).collect(),
+            fallen: Vec::new(),
+        };
+        // A guess takes only from jobs before its own, or the record is out of
+        // form: so going up, each answer is there before it is needed.
+        for job in record.held() {
+            let fallen = rules.has_fallen(job);
+            rules.fallen.push(fallen);
+        }
+        rules
+    }
+
+    /// "Two jobs conflict if they share a cell and at least one access to it is
+    /// not a read."
+    fn conflict(&self, one: usize, other: usize) -> bool {
+        let by_one = self.cells_not_read[one] & self.cells[other];
+        let by_other = self.cells[one] & self.cells_not_read[other];
+        by_one != 0 || by_other != 0
+    }
+
+    fn is_settled(&self, job: usize) -> bool {
+        self.record.committed[job] != NOT_SETTLED
+    }
+
+    /// "A job is ready when each earlier conflicting job is settled."
+    fn is_ready(&self, job: usize) -> bool {
+        (0..job).all(|earlier| self.is_settled(earlier) || !self.conflict(earlier, job))
+    }
+
+    fn own_is_out(&self, job: usize) -> bool {
+        self.record.running[job] == 1
+    }
+
+    /// Whether the job has a guess that is out or stored. One that is thrown away
+    /// neither falls nor stands any more.
+    fn has_live_guess(&self, job: usize) -> bool {
+        let phase = self.record.phase[job];
+        phase == OUT || phase == STORED
+    }
+
+    /// "A guess has fallen if a job it looked past is settled with mark 1, or a
+    /// guess it took from has fallen or been thrown away."
+    fn has_fallen(&self, job: usize) -> bool {
+        let run = &self.record.runs[job];
+        let past =
+            |k: usize| run.looked_past(k) && self.is_settled(k) && self.record.runs[k].wrote == 1;
+        let lost = |k: usize| self.fallen[k] || self.record.phase[k] == THROWN_AWAY;
+        self.has_live_guess(job) && ((0..job).any(past) || run.took_from().any(lost))
+    }
+
+    /// "A ready job's guess that has not fallen stands." It need not have
+    /// reported.
+    fn guess_stands(&self, job: usize) -> bool {
+        self.has_live_guess(job) && self.is_ready(job) && !self.fallen[job]
+    }
+
+    /// The run that a guess of this job started now would be, or none where 15
+    /// applies: "start guess when a writer met has no stored report or its guess
+    /// has fallen."
+    ///
+    /// "For each cell of the job, go back through earlier unsettled jobs. A
+    /// maybe-writer of that cell is looked past; at a writer (mode 1) the value
+    /// its guess reported is taken; if none is met, the present cell value is
+    /// handed out."
+    fn new_guess(&self, job: usize) -> Option<Run> {
+        let record = self.record;
+        let mut run = Run {
+            handed: record.present_values(job),
+            ..Run::default()
+        };
+        for (place, &(cell, _)) in record.jobs[job].used().iter().enumerate() {
+            for earlier in (0..job).rev() {
+                if self.is_settled(earlier) || self.cells[earlier] >> cell & 1 == 0 {
+                    continue;
+                }
+                match record.jobs[earlier].access_to(cell) {
+                    Some((_, MAYBE)) => run.bypassed |= 1 << earlier,
+                    Some((there, WRITE)) => {
+                        if record.phase[earlier] != STORED || self.fallen[earlier] {
+                            return None;
+                        }
+                        run.handed[place] = record.runs[earlier].reported[there];
+                        run.sources[place] = earlier as u8 + 1;
+                        break;
+                    }
+                    // A reader is passed; nothing is noted of it.
+                    _ => {}
+                }
+            }
+        }
+        Some(run)
+    }
+
+    /// For every job the length of "the longest chain of later jobs, each
+    /// conflicting with the one before it", "the job itself counted". Settled
+    /// jobs are jobs like the others here.
+    fn chains(&self) -> Vec<u8> {
+        let count = self.cells.len();
+        let mut chains = vec![1; count];
+        for job in (0..count).rev() {
+            for later in job + 1..count {
+                if self.conflict(job, later) && chains[job] < 1 + chains[later] {
+                    chains[job] = 1 + chains[later];
+                }
+            }
+        }
+        chains
+    }
+}
+
+// ---------------------------------------------------------------------------
+// What refuses a step: 10 to 18
+
+impl Rules<'_> {
+    /// 0 if the step 0 to 4 is allowed on the job, else the refusal. Header:
+    /// "Steps 0, 1 and 4 do not look at the report", here at its mark.
+    fn refusal(&self, step: u8, job: usize, mark: u8) -> u8 {
+        // "10: step or choice before sealing."
+        if self.record.sealed == 0 {
+            return 10;
+        }
+        // "11: job number not below the job count."
+        if !self.record.held().contains(&job) {
+            return 11;
+        }
+        match step {
+            START_OWN => self.start_own_refusal(job),
+            START_GUESS => self.start_guess_refusal(job),
+            REPORT_OWN => self.report_refusal(job, self.own_is_out(job), mark),
+            // "a thrown-away guess is not" out
+            REPORT_GUESS => self.report_refusal(job, self.record.phase[job] == OUT, mark),
+            SETTLE => self.settle_refusal(job),
+            _ => unreachable!("a step above 4 is answered before"),
+        }
+    }
+
+    fn start_own_refusal(&self, job: usize) -> u8 {
+        // "13: start own when settled or its own run is out"
+        if self.is_settled(job) || self.own_is_out(job) {
+            return 13;
+        }
+        // "15: start own or settle of a job not ready"
+        if !self.is_ready(job) {
+            return 15;
+        }
+        // "17: start own while its guess stands."
+        if self.guess_stands(job) {
+            return 17;
+        }
+        0
+    }
+
+    fn start_guess_refusal(&self, job: usize) -> u8 {
+        // "12: start guess with guessing off."
+        if self.record.speculating == 0 {
+            return 12;
+        }
+        // "13: start guess when settled, its own run is out, or a guess was ever
+        // started"
+        let ever_started = self.record.phase[job] != NEVER_STARTED;
+        if self.is_settled(job) || self.own_is_out(job) || ever_started {
+            return 13;
+        }
+        // "14: start guess of a ready job."
+        if self.is_ready(job) {
+            return 14;
+        }
+        // "15: start guess when a writer met has no stored report or its guess
+        // has fallen."
+        if self.new_guess(job).is_none() {
+            return 15;
+        }
+        0
+    }
+
+    fn report_refusal(&self, job: usize, that_run_is_out: bool, mark: u8) -> u8 {
+        // "13: report own or guess when that run is not out": of a settled job
+        // too nothing else is asked.
+        if !that_run_is_out {
+            return 13;
+        }
+        // "16: mark not 0 or 1, or 1 from a job without mode 2."
+        if mark > 1 || (mark == 1 && !self.record.jobs[job].has_maybe_write()) {
+            return 16;
+        }
+        0
+    }
+
+    fn settle_refusal(&self, job: usize) -> u8 {
+        // "13: settle when settled or no guess is in stored state."
+        if self.is_settled(job) || self.record.phase[job] != STORED {
+            return 13;
+        }
+        // "15: start own or settle of a job not ready"
+        if !self.is_ready(job) {
+            return 15;
+        }
+        // "18: settle a fallen guess."
+        if self.fallen[job] {
+            return 18;
+        }
+        0
+    }
+}
+
+// ---------------------------------------------------------------------------
+// The steps
+
+impl Record {
+    /// The step with this number on the job: 0 or the refusal, and the values
+    /// handed out, "and four zeros otherwise" (header).
+    pub fn step(&mut self, number: u8, job: usize, values: [i32; 4], wrote: u8) -> (u8, [i32; 4]) {
+        if !self.in_form() {
+            return (32, ZEROS);
+        }
+        // Header: "21 for a number above 4". That is no step, so that none of 10
+        // to 18 applies to it.
+        if number > SETTLE {
+            return (21, ZEROS);
+        }
+        let rules = Rules::of(self);
+        let refusal = rules.refusal(number, job, wrote);
+        if refusal != 0 {
+            return (refusal, ZEROS);
+        }
+        match number {
+            START_OWN => self.start_own(job),
+            START_GUESS => {
+                if let Some(run) = rules.new_guess(job) {
+                    self.start_guess(job, run);
+                }
+            }
+            REPORT_OWN => self.report_own(job, values, wrote),
+            REPORT_GUESS => self.report_guess(job, values, wrote),
+            _ => self.settle(job),
+        }
+        let starts = number == START_OWN || number == START_GUESS;
+        (0, if starts { self.runs[job].handed } else { ZEROS })
+    }
+
+    /// "0 start own: hands out present cell values." Header: "the job's run
+    /// becomes the values handed out, zeros else; running becomes 1, and a phase
+    /// other than 0 becomes 3."
+    fn start_own(&mut self, job: usize) {
+        self.runs[job] = Run {
+            handed: self.present_values(job),
+            ..Run::default()
+        };
+        self.running[job] = 1;
+        // "Starting a job's own run throws its fallen guess away." A guess that
+        // is out or stored here has fallen, or 17 would have applied.
+        if self.phase[job] != NEVER_STARTED {
+            self.phase[job] = THROWN_AWAY;
+        }
+    }
+
+    /// "1 start guess". Header: "the job's run becomes the values handed out with
+    /// their sources and bypassed, zeros else; phase becomes 1."
+    fn start_guess(&mut self, job: usize, run: Run) {
+        self.runs[job] = run;
+        self.phase[job] = OUT;
+    }
+
+    /// "2 report own: writes its cells and settles the job." Header: "the report
+    /// is stored in the run and written into the cells; committed becomes 1,
+    /// running 0."
+    fn report_own(&mut self, job: usize, values: [i32; 4], mark: u8) {
+        self.store_report(job, values, mark);
+        self.write_cells(job);
+        self.committed[job] = BY_OWN_RUN;
+        self.running[job] = 0;
+    }
+
+    /// "3 report guess: stores the report; no cell changes." Header: "the report
+    /// is stored in the run; phase becomes 2."
+    fn report_guess(&mut self, job: usize, values: [i32; 4], mark: u8) {
+        self.store_report(job, values, mark);
+        self.phase[job] = STORED;
+    }
+
+    /// "4 settle: writes the stored report into the cells; the job is settled by
+    /// its guess with that mark." Header: "committed becomes 2."
+    fn settle(&mut self, job: usize) {
+        self.write_cells(job);
+        self.committed[job] = BY_GUESS;
+    }
+
+    /// The present values of the job's cells; "unused places are 0".
+    fn present_values(&self, job: usize) -> [i32; 4] {
+        let mut values = ZEROS;
+        for (place, &(cell, _)) in self.jobs[job].used().iter().enumerate() {
+            values[place] = self.cells[usize::from(cell)];
+        }
+        values
+    }
+
+    /// "Values reported for cells not written are ignored and the handed ones
+    /// stored." "unused places are 0", whatever stands handed there.
+    fn store_report(&mut self, job: usize, values: [i32; 4], mark: u8) {
+        let run = &mut self.runs[job];
+        run.reported = ZEROS;
+        for (place, &(_, mode)) in self.jobs[job].used().iter().enumerate() {
+            let written = is_written(mode, mark);
+            run.reported[place] = if written {
+                values[place]
+            } else {
+                run.handed[place]
+            };
+        }
+        run.wrote = mark;
+    }
+
+    /// The run's report, as it is stored, into the cells that it writes.
+    fn write_cells(&mut self, job: usize) {
+        let run = &self.runs[job];
+        for (place, &(cell, mode)) in self.jobs[job].used().iter().enumerate() {
+            if is_written(mode, run.wrote) {
+                self.cells[usize::from(cell)] = run.reported[place];
+            }
+        }
+    }
+}
+
+// ---------------------------------------------------------------------------
+// The chooser
+
+impl Record {
+    /// Refusal, step, job, chain; zeros after a refusal.
+    pub fn choose(&self) -> (u8, u8, u8, u8) {
+        if !self.in_form() {
+            return (32, 0, 0, 0);
+        }
+        // "10: step or choice before sealing."
+        if self.sealed == 0 {
+            return (10, 0, 0, 0);
+        }
+        let rules = Rules::of(self);
+        let chains = rules.chains();
+        // "The chooser names one allowed step among 4, 0 and 1, in that order of
+        // preference."
+        for step in [SETTLE, START_OWN, START_GUESS] {
+            // "Within a step number it takes the job with the longest chain of
+            // later jobs ... Ties go to the lowest job number."
+            let mut best: Option<usize> = None;
+            for job in self.held() {
+                let longer = best.map_or(true, |named| chains[job] > chains[named]);
+                if longer && rules.refusal(step, job, 0) == 0 {
+                    best = Some(job);
+                }
+            }
+            if let Some(job) = best {
+                return (0, step, job as u8, chains[job]);
+            }
+        }
+        // "19: the chooser finds no allowed step 4, 0 or 1."
+        (19, 0, 0, 0)
+    }
+}
+
+// ---------------------------------------------------------------------------
+// The reader of results: "Asking is allowed before sealing."
+
+impl Record {
+    pub fn ask_cell(&self, cell: usize) -> (u8, i32) {
+        if !self.in_form() {
+            return (32, 0);
+        }
+        // "5 and 11: as above, for asking a cell or a job."
+        if cell >= usize::from(self.cell_count) {
+            return (5, 0);
+        }
+        (0, self.cells[cell])
+    }
+
+    pub fn ask_job(&self, job: usize) -> JobAnswer {
+        if !self.in_form() {
+            return JobAnswer {
+                refusal: 32,
+                ..JobAnswer::default()
+            };
+        }
+        // "5 and 11: as above, for asking a cell or a job."
+        if !self.held().contains(&job) {
+            return JobAnswer {
+                refusal: 11,
+                ..JobAnswer::default()
+            };
+        }
+        let run = &self.runs[job];
+        let settled = self.committed[job] != NOT_SETTLED;
+        JobAnswer {
+            refusal: 0,
+            committed: self.committed[job],
+            // "An unsettled job's mark is 0."
+            wrote: if settled { run.wrote } else { 0 },
+            running: self.running[job],
+            phase: self.phase[job],
+            handed: run.handed,
+            reported: run.reported,
+            job: self.jobs[job],
+        }
+    }
+
+    pub fn ask_batch(&self) -> BatchAnswer {
+        if !self.in_form() {
+            return BatchAnswer {
+                refusal: 32,
+                ..BatchAnswer::default()
+            };
+        }
+        let all_settled = self.held().all(|job| self.committed[job] != NOT_SETTLED);
+        BatchAnswer {
+            refusal: 0,
+            cell_count: self.cell_count,
+            job_count: self.job_count,
+            sealed: self.sealed,
+            speculating: self.speculating,
+            finished: self.sealed == 1 && all_settled,
+        }
+    }
+
+    /// "20: cells are copied out from a given place of a longer buffer, and fewer
+    /// places remain than cells. All other places keep their values."
+    pub fn copy_out(&self, buffer: &mut [i32], at: usize) -> u8 {
+        if !self.in_form() {
+            return 32;
+        }
+        let count = usize::from(self.cell_count);
+        if buffer.len().saturating_sub(at) < count {
+            return 20;
+        }
+        buffer[at..at + count].copy_from_slice(&self.cells[..count]);
+        0
+    }
+}

@@ -1,0 +1,1310 @@
+//! `record`: side by side with `engine` on random lists of calls; every clause of
+//! refusal 32 at its limits; states that no list of calls leads to; damaged
+//! records.
+
+use second_hand::engine::{Access, Batch, GuessState, Report, Settled};
+use second_hand::kinds;
+use second_hand::record::{BatchAnswer, Job, JobAnswer, Record, Run};
+
+const READ: u8 = 0;
+const WRITE: u8 = 1;
+const MAYBE: u8 = 2;
+
+struct Dice(u64);
+
+impl Dice {
+    fn below(&mut self, limit: u64) -> u64 {
+        self.0 ^= self.0 << 13;
+        self.0 ^= self.0 >> 7;
+        self.0 ^= self.0 << 17;
+        (self.0 >> 11) % limit
+    }
+
+    fn one_in(&mut self, chances: u64) -> bool {
+        self.below(chances) == 0
+    }
+}
+
+fn job(kind: u8, parameter: i32, accesses: &[(u8, u8)]) -> Job {
+    let mut job = Job {
+        kind,
+        parameter,
+        arity: accesses.len() as u8,
+        accesses: [(0, 0); 4],
+    };
+    job.accesses[..accesses.len()].copy_from_slice(accesses);
+    job
+}
+
+fn record(heights: &[i32], jobs: &[Job], guessing: u8) -> Record {
+    let mut record = Record::open(heights).unwrap();
+    for &job in jobs {
+        assert_eq!(record.insert(job), 0);
+    }
+    assert_eq!(record.seal(guessing), 0);
+    record
+}
+
+/// Two cells; jobs 0 floor, 1 shift, 2 shift on cell 0, 3 set on cell 1.
+fn quay(guessing: u8) -> Record {
+    let floor = job(4, 1400, &[(0, MAYBE)]);
+    let shift = job(2, 20, &[(0, WRITE)]);
+    let set = job(1, 7, &[(1, WRITE)]);
+    record(&[1500, 1480], &[floor, shift, shift, set], guessing)
+}
+
+/// The step's refusal, with a report of one value where one is due. A refusal
+/// hands out zeros and changes nothing.
+fn step(record: &mut Record, number: u8, job: usize, value: i32, mark: u8) -> u8 {
+    let before = record.clone();
+    let (refusal, handed) = record.step(number, job, [value; 4], mark);
+    if refusal != 0 {
+        assert_eq!(*record, before);
+    }
+    if refusal != 0 || number > 1 {
+        assert_eq!(handed, [0; 4]);
+    }
+    refusal
+}
+
+/// What the five steps on this job would be answered, with mark 0.
+fn answers(record: &Record, job: usize) -> [u8; 5] {
+    [0, 1, 2, 3, 4].map(|number| step(&mut record.clone(), number, job, 5, 0))
+}
+
+// ---------------------------------------------------------------------------
+// Bytes
+
+/// The bytes of a record by the header's structs as a C compiler lays them out;
+/// the bytes between the fields are 170.
+fn bytes_of(record: &Record) -> Vec<u8> {
+    let mut bytes = vec![170; 10376];
+    let mut put = |at: usize, part: &[u8]| bytes[at..at + part.len()].copy_from_slice(part);
+    put(
+        0,
+        &[
+            record.cell_count,
+            record.job_count,
+            record.sealed,
+            record.speculating,
+        ],
+    );
+    for (cell, height) in record.cells.iter().enumerate() {
+        put(4 + 4 * cell, &height.to_le_bytes());
+    }
+    for (number, job) in record.jobs.iter().enumerate() {
+        let at = 260 + 20 * number;
+        put(at, &[job.kind]);
+        put(at + 4, &job.parameter.to_le_bytes());
+        put(at + 8, &[job.arity]);
+        for (place, access) in job.accesses.iter().enumerate() {
+            put(at + 9 + 2 * place, &[access.0, access.1]);
+        }
+    }
+    for (number, run) in record.runs.iter().enumerate() {
+        let at = 2824 + 56 * number;
+        for place in 0..4 {
+            put(at + 4 * place, &run.handed[place].to_le_bytes());
+            put(at + 16 + 4 * place, &run.reported[place].to_le_bytes());
+        }
+        put(at + 32, &[run.wrote]);
+        put(at + 33, &run.sources);
+        put(at + 40, &(run.bypassed as u64).to_le_bytes());
+        put(at + 48, &((run.bypassed >> 64) as u64).to_le_bytes());
+    }
+    put(9992, &record.committed);
+    put(10120, &record.running);
+    put(10248, &record.phase);
+    bytes
+}
+
+#[test]
+fn bytes_there_and_back() {
+    assert_eq!(Record::SIZE, 10376);
+    let mut dice = Dice(77);
+    let bytes: Vec<u8> = (0..Record::SIZE).map(|_| dice.below(256) as u8).collect();
+    let record = Record::from_bytes(&bytes);
+    assert_eq!(record.jobs.len(), 128);
+    assert_eq!(record.runs.len(), 128);
+    assert_eq!(record.phase[127], bytes[10375]);
+    assert_eq!(record.runs[127].bypassed >> 120, u128::from(bytes[9991]));
+    assert_eq!(record.jobs[127].accesses[3].1, bytes[260 + 127 * 20 + 16]);
+    let back = bytes_of(&record);
+    assert_eq!(Record::from_bytes(&back), record);
+    // Between fields lie 6 bytes of a job, 3 of a run, and 4 before the runs.
+    let between = back
+        .iter()
+        .zip(&bytes)
+        .filter(|(one, other)| one != other)
+        .count();
+    assert!(between <= 128 * (6 + 3) + 4 && between > 128 * 8);
+}
+
+#[test]
+#[should_panic]
+fn another_length() {
+    Record::from_bytes(&[0; 10375]);
+}
+
+// ---------------------------------------------------------------------------
+// (a) Side by side with `engine`
+
+/// A batch held twice, and what the calls say of each job's run.
+struct Pair {
+    record: Record,
+    batch: Batch,
+    guessing: Option<u8>,
+    runs: Vec<([i32; 4], [i32; 4])>,
+    accepted: [u64; 7],
+    refused: [u64; 33],
+}
+
+/// A job that is mostly sound. Places not in use have anything in them.
+fn any_job(dice: &mut Dice, cells: u64) -> Job {
+    let kind = if dice.one_in(40) {
+        7
+    } else {
+        dice.below(7) as u8
+    };
+    let modes = kinds::modes(u32::from(kind));
+    let arity = match modes {
+        _ if dice.one_in(40) => dice.below(6),
+        Some(modes) => modes.len() as u64,
+        None => 1 + dice.below(4),
+    };
+    let mut accesses = [(0, 0); 4].map(|_: (u8, u8)| {
+        let cell = if dice.one_in(60) {
+            cells
+        } else {
+            dice.below(cells)
+        };
+        let mode = if dice.one_in(60) { 3 } else { dice.below(3) };
+        (cell as u8, mode as u8)
+    });
+    if !dice.one_in(40) {
+        for (access, mode) in accesses.iter_mut().zip(modes.unwrap_or(&[])) {
+            access.1 = *mode as u8;
+        }
+    }
+    Job {
+        kind,
+        parameter: dice.below(60) as i32 - 30,
+        arity: arity as u8,
+        accesses,
+    }
+}
+
+fn accesses_of(job: &Job) -> Vec<Access> {
+    let place = |place: usize| job.accesses.get(place).copied().unwrap_or((0, 0));
+    let access = |(cell, mode): (u8, u8)| Access {
+        cell: u32::from(cell),
+        mode: u32::from(mode),
+    };
+    (0..usize::from(job.arity))
+        .map(|at| access(place(at)))
+        .collect()
+}
+
+impl Pair {
+    fn open(heights: &[i32]) -> Pair {
+        Pair {
+            record: Record::open(heights).unwrap(),
+            batch: Batch::open(heights).unwrap(),
+            guessing: None,
+            runs: Vec::new(),
+            accepted: [0; 7],
+            refused: [0; 33],
+        }
+    }
+
+    fn count(&mut self, call: usize, refusal: u8) {
+        match refusal {
+            0 => self.accepted[call] += 1,
+            number => self.refused[usize::from(number)] += 1,
+        }
+    }
+
+    fn insert(&mut self, job: Job) {
+        let answer = self
+            .batch
+            .insert(u32::from(job.kind), job.parameter, &accesses_of(&job));
+        let refusal = self.record.insert(job);
+        assert_eq!(u32::from(refusal), answer.err().unwrap_or(0));
+        if refusal == 0 {
+            self.runs.push(([0; 4], [0; 4]));
+            assert_eq!(self.record.ask_job(self.runs.len() - 1).job, job);
+        }
+        self.count(5, refusal);
+    }
+
+    fn seal(&mut self, guessing: u8) {
+        let answer = self.batch.seal(u32::from(guessing));
+        let refusal = self.record.seal(guessing);
+        assert_eq!(u32::from(refusal), answer.err().unwrap_or(0));
+        if refusal == 0 {
+            self.guessing = Some(guessing);
+        }
+        self.count(6, refusal);
+    }
+
+    fn step(&mut self, number: u8, job: usize, values: [i32; 4], mark: u8) {
+        let batch = &mut self.batch;
+        let report = Report {
+            values,
+            mark: u32::from(mark),
+        };
+        let place = job as u32;
+        let answer = match number {
+            0 => batch.start_own(place),
+            1 => batch.start_guess(place),
+            2 => batch.report_own(place, report).map(|()| [0; 4]),
+            3 => batch.report_guess(place, report).map(|()| [0; 4]),
+            _ => batch.settle(place).map(|()| [0; 4]),
+        };
+        let before = self.record.clone();
+        let (refusal, handed) = self.record.step(number, job, values, mark);
+        match answer {
+            Ok(given) => assert_eq!((refusal, handed), (0, given)),
+            Err(given) => {
+                assert_eq!((u32::from(refusal), handed), (given, [0; 4]));
+                assert_eq!(self.record, before);
+            }
+        }
+        if refusal == 0 {
+            self.note(number, job, handed, values, mark);
+        }
+        self.count(usize::from(number), refusal);
+    }
+
+    /// What the accepted step says of the job's run.
+    fn note(&mut self, number: u8, job: usize, handed: [i32; 4], values: [i32; 4], mark: u8) {
+        match number {
+            0 | 1 => self.runs[job] = (handed, [0; 4]),
+            2 | 3 => {
+                let handed = self.runs[job].0;
+                let inserted = self.record.jobs[job];
+                for (place, access) in accesses_of(&inserted).iter().enumerate() {
+                    let written = access.mode == 1 || (access.mode == 2 && mark == 1);
+                    self.runs[job].1[place] = if written {
+                        values[place]
+                    } else {
+                        handed[place]
+                    };
+                }
+            }
+            _ => {}
+        }
+    }
+
+    fn compare(&self, dice: &mut Dice) {
+        assert!(self.record.in_form());
+        let cells = self.batch.cell_count();
+        let jobs = self.batch.job_count();
+        let asked = BatchAnswer {
+            refusal: 0,
+            cell_count: cells as u8,
+            job_count: jobs as u8,
+            sealed: u8::from(self.guessing.is_some()),
+            speculating: self.guessing.unwrap_or(0),
+            finished: self.batch.finished(),
+        };
+        assert_eq!(self.record.ask_batch(), asked);
+        for cell in 0..cells + 2 {
+            let (refusal, height) = self.record.ask_cell(cell as usize);
+            let answer = if refusal == 0 {
+                Ok(height)
+            } else {
+                Err(u32::from(refusal))
+            };
+            assert_eq!(answer, self.batch.ask_cell(cell));
+        }
+        for job in 0..jobs {
+            self.compare_job(job);
+        }
+        assert_eq!(self.record.ask_job(jobs as usize).refusal, 11);
+        self.compare_choice();
+        let at = dice.below(8) as usize;
+        let mut one = vec![-9; cells as usize + 4];
+        let mut other = one.clone();
+        let refusal = self.record.copy_out(&mut one, at);
+        let answer = self.batch.copy_cells(&mut other, at);
+        assert_eq!(u32::from(refusal), answer.err().unwrap_or(0));
+        assert_eq!(one, other);
+    }
+
+    fn compare_choice(&self) {
+        let (refusal, step, job, chain) = self.record.choose();
+        match self.batch.choose() {
+            Err(number) => {
+                assert_eq!((u32::from(refusal), step, job, chain), (number, 0, 0, 0))
+            }
+            Ok(choice) => {
+                assert_eq!(refusal, 0);
+                let named = (u32::from(step), u32::from(job), u32::from(chain));
+                assert_eq!(named, (choice.step, choice.job, choice.chain));
+            }
+        }
+    }
+
+    fn compare_job(&self, job: u32) {
+        let place = job as usize;
+        let (committed, wrote) = match self.batch.ask_job(job).unwrap() {
+            Settled::No => (0, 0),
+            Settled::ByOwnRun { mark } => (1, mark as u8),
+            Settled::ByGuess { mark } => (2, mark as u8),
+        };
+        let phase = match self.batch.guess(job).map(|guess| guess.state) {
+            None => 0,
+            Some(GuessState::Out) => 1,
+            Some(GuessState::Stored(_) | GuessState::Kept) => 2,
+            Some(GuessState::ThrownAway) => 3,
+        };
+        let (handed, reported) = self.runs[place];
+        let inserted = self.record.jobs[place];
+        let running = u8::from(self.batch.own_handed(job).is_some());
+        let answer = JobAnswer {
+            refusal: 0,
+            committed,
+            wrote,
+            running,
+            phase,
+            handed,
+            reported,
+            job: inserted,
+        };
+        assert_eq!(self.record.ask_job(place), answer);
+        assert_eq!(
+            accesses_of(&inserted),
+            self.batch.job(job).unwrap().accesses
+        );
+        self.compare_origins(job, phase);
+    }
+
+    /// Where a guess came from, while there is one.
+    fn compare_origins(&self, job: u32, phase: u8) {
+        let run = &self.record.runs[job as usize];
+        let mut past = 0;
+        let mut taken = 0;
+        if let Some(guess) = self.batch.guess(job).filter(|_| phase != 3) {
+            past = guess.looked_past.iter().fold(0, |set, &k| set | 1 << k);
+            taken = guess.taken_from.iter().fold(0, |set, &k| set | 1 << k);
+        }
+        let named = run.sources.iter().filter(|&&source| source != 0);
+        assert_eq!(run.bypassed, past);
+        assert_eq!(
+            named.fold(0u128, |set, &source| set | 1 << (source - 1)),
+            taken
+        );
+    }
+
+    /// Half of the time one that is allowed, if a few tries find it.
+    fn any_step(&mut self, dice: &mut Dice) {
+        let tries = if dice.one_in(2) { 1 } else { 20 };
+        let (mut number, mut job) = (0, 0);
+        for _ in 0..tries {
+            number = dice.below(5) as u8;
+            job = dice.below(self.runs.len() as u64 + 1) as usize;
+            if self.batch.would_answer(u32::from(number), job as u32) == Some(0) {
+                break;
+            }
+        }
+        let values = [0; 4].map(|_: i32| dice.below(60) as i32 - 30);
+        let mark = if dice.one_in(20) {
+            2
+        } else {
+            dice.below(2) as u8
+        };
+        self.step(number, job, values, mark);
+    }
+}
+
+/// One random list of calls on a fresh opening. `busy` is how often all is
+/// compared: after one in that many calls.
+fn one_list(dice: &mut Dice, most_cells: u64, inserts: u64, calls: u64, busy: u64) -> Pair {
+    let cells = 1 + dice.below(most_cells);
+    let heights: Vec<i32> = (0..cells).map(|_| dice.below(60) as i32 - 30).collect();
+    let mut pair = Pair::open(&heights);
+    for _ in 0..inserts {
+        pair.insert(any_job(dice, cells));
+        if dice.one_in(20) {
+            pair.any_step(dice);
+        }
+    }
+    if dice.one_in(8) {
+        pair.seal(2);
+    }
+    pair.compare(dice);
+    pair.seal(u8::from(!dice.one_in(4)));
+    for _ in 0..calls {
+        match dice.below(60) {
+            0 => pair.insert(any_job(dice, cells)),
+            1 => pair.seal(dice.below(3) as u8),
+            _ => pair.any_step(dice),
+        }
+        if dice.one_in(busy) {
+            pair.compare(dice);
+        }
+    }
+    pair.compare(dice);
+    pair
+}
+
+#[test]
+fn side_by_side() {
+    let mut dice = Dice(0x0BAD_5EED_1234_5678);
+    let mut accepted = [0; 7];
+    let mut refused = [0; 33];
+    let mut finished = 0;
+    for list in 0..700 {
+        let pair = match list % 50 {
+            0 => one_list(&mut dice, 64, 140, 3000, 300),
+            _ => {
+                let inserts = dice.below(14);
+                one_list(&mut dice, 5, inserts, 40 * (inserts + 1), 3)
+            }
+        };
+        finished += u64::from(pair.record.ask_batch().finished);
+        for (sum, more) in accepted.iter_mut().zip(pair.accepted) {
+            *sum += more;
+        }
+        for (sum, more) in refused.iter_mut().zip(pair.refused) {
+            *sum += more;
+        }
+    }
+    assert!(finished > 300, "{finished}");
+    assert!(accepted.iter().all(|&times| times > 300), "{accepted:?}");
+    for number in (2..=18).filter(|&number| number != 3) {
+        assert!(refused[number] > 15, "{number}: {refused:?}");
+    }
+}
+
+/// Also the 129th job and the longest chain.
+#[test]
+fn side_by_side_when_full() {
+    let mut dice = Dice(3);
+    let mut pair = Pair::open(&[0; 64]);
+    for number in 0..130u8 {
+        pair.insert(job(
+            0,
+            0,
+            &[(number % 64, READ), (63, if number < 64 { 2 } else { 1 })],
+        ));
+        pair.insert(job(0, 0, &[(0, WRITE)]));
+    }
+    assert_eq!(pair.record.job_count, 128);
+    assert!(pair.refused[3] > 0);
+    pair.seal(1);
+    pair.compare(&mut dice);
+    for number in [1, 3, 0, 2, 4, 0, 2, 1, 3, 4] {
+        for job in 0..128 {
+            pair.step(number, job, [job as i32; 4], 0);
+        }
+        pair.compare(&mut dice);
+    }
+    assert!(
+        pair.accepted[..5].iter().all(|&times| times > 0),
+        "{:?}",
+        pair.accepted
+    );
+    let shift = job(2, 1, &[(0, WRITE)]);
+    assert_eq!(record(&[0], &[shift; 128], 0).choose(), (0, 0, 0, 128));
+}
+
+#[test]
+fn openings() {
+    assert!(Record::open(&[]).is_none());
+    assert!(Record::open(&[0; 65]).is_none());
+    let open = Record::open(&[7; 64]).unwrap();
+    assert_eq!(
+        (open.cell_count, open.ask_cell(63), open.ask_cell(64)),
+        (64, (0, 7), (5, 0))
+    );
+    assert_eq!(open.choose(), (10, 0, 0, 0));
+    let mut none = Record::open(&[7]).unwrap();
+    assert!(!none.ask_batch().finished);
+    none.seal(0);
+    assert!(none.ask_batch().finished);
+    assert_eq!(none.choose(), (19, 0, 0, 0));
+}
+
+// ---------------------------------------------------------------------------
+// (b) Every clause of 32
+
+/// Every entry gives 32, hands out zeros and changes nothing.
+fn out_of_form(record: &Record) {
+    assert!(!record.in_form());
+    let mut after = record.clone();
+    for number in [0, 1, 2, 3, 4, 5, 255] {
+        for place in [0, 1, 2, 3, 127, 128, usize::MAX] {
+            assert_eq!(after.step(number, place, [1; 4], 9), (32, [0; 4]));
+        }
+    }
+    assert_eq!(after.insert(job(1, 0, &[(0, WRITE)])), 32);
+    assert_eq!(after.insert(Job::default()), 32);
+    assert_eq!(after.seal(1), 32);
+    assert_eq!(after.seal(9), 32);
+    assert_eq!(after, *record);
+    assert_eq!(record.choose(), (32, 0, 0, 0));
+    assert_eq!(record.ask_cell(0), (32, 0));
+    assert_eq!(record.ask_cell(99), (32, 0));
+    assert_eq!(
+        record.ask_job(0),
+        JobAnswer {
+            refusal: 32,
+            ..JobAnswer::default()
+        }
+    );
+    assert_eq!(
+        record.ask_job(999),
+        JobAnswer {
+            refusal: 32,
+            ..JobAnswer::default()
+        }
+    );
+    assert_eq!(
+        record.ask_batch(),
+        BatchAnswer {
+            refusal: 32,
+            ..BatchAnswer::default()
+        }
+    );
+    let mut buffer = [3; 70];
+    assert_eq!(record.copy_out(&mut buffer, 0), 32);
+    assert_eq!(record.copy_out(&mut buffer, 70), 32);
+    assert_eq!(buffer, [3; 70]);
+}
+
+/// With the first change the record is in form, with the second it is not.
+fn limit(record: &Record, last: impl Fn(&mut Record), past: impl Fn(&mut Record)) {
+    let mut changed = record.clone();
+    last(&mut changed);
+    assert!(changed.in_form());
+    assert_eq!(changed.ask_batch().refusal, 0);
+    let mut changed = record.clone();
+    past(&mut changed);
+    out_of_form(&changed);
+}
+
+#[test]
+fn counts() {
+    let read = job(0, 0, &[(0, READ)]);
+    let full = record(&[0], &[read; 128], 1);
+    limit(&full, |r| r.cell_count = 64, |r| r.cell_count = 65);
+    limit(&full, |r| r.cell_count = 1, |r| r.cell_count = 0);
+    limit(&full, |r| r.cell_count = 1, |r| r.cell_count = 255);
+    limit(&full, |r| r.job_count = 128, |r| r.job_count = 129);
+    limit(&full, |r| r.job_count = 0, |r| r.job_count = 255);
+}
+
+#[test]
+fn states_and_marks_of_the_batch_and_of_jobs() {
+    let quay = quay(1);
+    limit(&quay, |r| r.sealed = 0, |r| r.sealed = 2);
+    limit(&quay, |r| r.speculating = 0, |r| r.speculating = 2);
+    limit(&quay, |r| r.sealed = 1, |r| r.sealed = 255);
+    limit(&quay, |r| r.speculating = 1, |r| r.speculating = 128);
+    // Unsealed, yet guesses may be started: each is in its list.
+    limit(
+        &quay,
+        |r| (r.sealed, r.speculating) = (0, 1),
+        |r| (r.sealed, r.speculating) = (3, 0),
+    );
+    for job in 0..4 {
+        limit(&quay, |r| r.committed[job] = 2, |r| r.committed[job] = 3);
+        limit(&quay, |r| r.running[job] = 1, |r| r.running[job] = 2);
+        limit(&quay, |r| r.phase[job] = 3, |r| r.phase[job] = 4);
+        // Also the mark of a run that never reported, and 1 without mode 2.
+        limit(&quay, |r| r.runs[job].wrote = 1, |r| r.runs[job].wrote = 2);
+    }
+    // No pair of states is out of its list.
+    for number in 0..3 * 2 * 4 * 2u8 {
+        let mut record = quay.clone();
+        record.committed[1] = number % 3;
+        record.running[1] = number / 3 % 2;
+        record.phase[1] = number / 6 % 4;
+        record.runs[1].wrote = number / 24;
+        assert!(record.in_form());
+    }
+}
+
+/// A job of each kind, by number.
+fn all_kinds() -> Record {
+    let free = job(0, 9, &[(0, READ), (1, WRITE), (2, MAYBE), (3, READ)]);
+    let kinds = [
+        free,
+        job(1, 0, &[(0, WRITE)]),
+        job(2, 0, &[(0, WRITE)]),
+        job(3, 0, &[(0, MAYBE), (1, READ)]),
+        job(4, 0, &[(0, MAYBE)]),
+        job(5, 0, &[(0, WRITE), (1, READ), (2, READ)]),
+        job(6, 0, &[(0, MAYBE), (1, MAYBE)]),
+    ];
+    record(&[0; 4], &kinds, 1)
+}
+
+#[test]
+fn held_jobs_4_to_6() {
+    let held = all_kinds();
+    // 4
+    limit(&held, |r| r.jobs[0].arity = 1, |r| r.jobs[0].arity = 0);
+    limit(&held, |r| r.jobs[0].arity = 4, |r| r.jobs[0].arity = 5);
+    limit(&held, |r| r.jobs[0].arity = 2, |r| r.jobs[0].arity = 255);
+    // 5
+    limit(
+        &held,
+        |r| r.jobs[1].accesses[0].0 = 3,
+        |r| r.jobs[1].accesses[0].0 = 4,
+    );
+    limit(
+        &held,
+        |r| r.jobs[0].accesses[3].0 = 3,
+        |r| r.jobs[0].accesses[3].0 = 4,
+    );
+    limit(&held, |r| r.cell_count = 4, |r| r.cell_count = 3);
+    limit(
+        &held,
+        |r| r.cell_count = 5,
+        |r| r.jobs[6].accesses[1].0 = 255,
+    );
+    // 6
+    limit(
+        &held,
+        |r| r.jobs[0].accesses[3].1 = 2,
+        |r| r.jobs[0].accesses[3].1 = 3,
+    );
+    limit(
+        &held,
+        |r| r.jobs[0].accesses[0].1 = 2,
+        |r| r.jobs[0].accesses[0].1 = 255,
+    );
+}
+
+#[test]
+fn held_jobs_7_and_8() {
+    let held = all_kinds();
+    // 7
+    limit(
+        &held,
+        |r| r.jobs[3].accesses[1].0 = 2,
+        |r| r.jobs[3].accesses[1].0 = 0,
+    );
+    limit(
+        &held,
+        |r| r.jobs[0].arity = 3,
+        |r| r.jobs[0].accesses[3].0 = 0,
+    );
+    // 8
+    limit(&held, |r| r.jobs[4].kind = 0, |r| r.jobs[0].kind = 7);
+    limit(&held, |r| r.jobs[1].kind = 2, |r| r.jobs[1].kind = 4);
+    limit(
+        &held,
+        |r| r.jobs[3].kind = 0,
+        |r| r.jobs[3].accesses[1].1 = WRITE,
+    );
+    for number in 1..7 {
+        let arity = held.jobs[number].arity;
+        limit(&held, |_| (), |r| r.jobs[number].accesses[0].1 = READ);
+        limit(&held, |_| (), |r| r.jobs[number].arity = 4);
+        limit(&held, |_| (), |r| r.jobs[number].arity = arity - 1);
+        limit(
+            &held,
+            |r| r.jobs[number].kind = 0,
+            |r| r.jobs[number].kind = 255,
+        );
+    }
+    // Parameters and heights may be any; accesses past the arity too.
+    limit(
+        &held,
+        |r| r.jobs[2].parameter = i32::MIN,
+        |r| r.jobs[2].kind = 6,
+    );
+    limit(
+        &held,
+        |r| r.jobs[1].accesses[1] = (255, 255),
+        |r| r.jobs[1].accesses[0].1 = 255,
+    );
+    limit(
+        &held,
+        |r| r.jobs[1].accesses[1] = (0, 2),
+        |r| r.jobs[1].arity = 2,
+    );
+}
+
+#[test]
+fn origins() {
+    let read = job(0, 0, &[(0, READ)]);
+    let full = record(&[0], &[read; 128], 1);
+    for job in [0, 1, 2, 63, 64, 65, 126, 127usize] {
+        for phase in 0..4 {
+            let mut record = full.clone();
+            record.phase[job] = phase;
+            // All jobs before its own, and its own.
+            let before: u128 = (1 << job) - 1;
+            limit(
+                &record,
+                |r| r.runs[job].bypassed = before,
+                |r| r.runs[job].bypassed = 1 << job,
+            );
+            limit(&record, |_| (), |r| r.runs[job].bypassed = 1 << 127);
+            limit(&record, |_| (), |r| r.runs[job].bypassed = u128::MAX);
+            // One more than the number; all four places.
+            for place in 0..4 {
+                let last = job as u8;
+                limit(
+                    &record,
+                    |r| r.runs[job].sources[place] = last,
+                    |r| r.runs[job].sources[place] = last + 1,
+                );
+                limit(&record, |_| (), |r| r.runs[job].sources[place] = 255);
+            }
+        }
+    }
+}
+
+/// The record with anything in the cells and places that are not in use.
+fn scribbled(dice: &mut Dice, record: &Record) -> Record {
+    let mut other = record.clone();
+    for height in &mut other.cells[usize::from(record.cell_count)..] {
+        *height = dice.below(1 << 32) as i32;
+    }
+    for job in usize::from(record.job_count)..128 {
+        let accesses = [0; 4].map(|_| (dice.below(256) as u8, dice.below(256) as u8));
+        other.jobs[job] = Job {
+            kind: 200,
+            parameter: 7,
+            arity: 99,
+            accesses,
+        };
+        let (sources, bypassed) = ([255; 4], u128::MAX);
+        other.runs[job] = Run {
+            sources,
+            bypassed,
+            wrote: 77,
+            ..Run::default()
+        };
+        other.committed[job] = dice.below(256) as u8;
+        other.running[job] = dice.below(256) as u8;
+        other.phase[job] = dice.below(256) as u8;
+    }
+    other
+}
+
+/// "what stands in the other places is never looked at": not by 32 and not by
+/// any entry.
+#[test]
+fn places_not_in_use() {
+    let mut dice = Dice(99);
+    for list in 0..60 {
+        let record = one_list(&mut dice, 4, 8, list * 2, 1000).record;
+        let other = scribbled(&mut dice, &record);
+        let jobs = usize::from(record.job_count);
+        let cells = usize::from(record.cell_count);
+        assert!(other.in_form());
+        assert_eq!(other.choose(), record.choose());
+        assert_eq!(other.ask_batch(), record.ask_batch());
+        assert_eq!(other.ask_job(jobs).refusal, 11);
+        assert_eq!(other.ask_cell(cells), (5, 0));
+        for job in 0..jobs + 1 {
+            assert_eq!(other.ask_job(job), record.ask_job(job));
+            assert_eq!(answers(&other, job), answers(&record, job));
+        }
+    }
+}
+
+/// An insert blanks the place that it takes, and nothing else.
+#[test]
+fn insert_into_a_place_not_blank() {
+    let mut other = scribbled(&mut Dice(4), &quay(1));
+    other.sealed = 0;
+    let mut due = other.clone();
+    let new = Job {
+        accesses: [(1, WRITE), (9, 9), (0, 2), (1, 1)],
+        ..job(2, 4, &[(0, WRITE)])
+    };
+    assert_eq!(other.insert(new), 0);
+    due.job_count = 5;
+    due.jobs[4] = new;
+    due.runs[4] = Run::default();
+    (due.committed[4], due.running[4], due.phase[4]) = (0, 0, 0);
+    assert_eq!(other, due);
+    assert_eq!(
+        other.ask_job(4),
+        JobAnswer {
+            job: new,
+            ..JobAnswer::default()
+        }
+    );
+}
+
+/// "32 goes before all": then 21, then the others from the lowest on.
+#[test]
+fn order_of_refusals() {
+    let mut open = Record::open(&[0]).unwrap();
+    assert_eq!(open.step(5, 9, [0; 4], 9), (21, [0; 4]));
+    assert_eq!(open.step(255, 0, [0; 4], 0), (21, [0; 4]));
+    assert_eq!(open.step(0, 9, [0; 4], 9), (10, [0; 4]));
+    assert_eq!(open.insert(job(9, 0, &[(1, 3), (1, 3)])), 5);
+    assert_eq!(open.insert(job(9, 0, &[(0, 3), (0, 3)])), 6);
+    assert_eq!(open.insert(job(9, 0, &[(0, 2), (0, 2)])), 7);
+    assert_eq!(open.insert(job(9, 0, &[(0, 2)])), 8);
+    assert_eq!(
+        open.insert(Job {
+            arity: 5,
+            ..job(9, 0, &[(1, 3); 4])
+        }),
+        4
+    );
+    assert_eq!(open.seal(2), 9);
+    assert_eq!(open.seal(0), 0);
+    assert_eq!(open.seal(2), 2);
+    assert_eq!(open.insert(Job::default()), 2);
+    assert_eq!(open.step(1, 0, [0; 4], 9), (11, [0; 4]));
+    let mut off = quay(0);
+    assert_eq!(step(&mut off, 1, 0, 0, 9), 12);
+    assert_eq!(step(&mut off, 3, 0, 0, 9), 13);
+    let mut buffer = [8; 3];
+    assert_eq!(off.copy_out(&mut buffer, 2), 20);
+    assert_eq!(off.copy_out(&mut buffer, usize::MAX), 20);
+    assert_eq!(buffer, [8; 3]);
+    assert_eq!(off.copy_out(&mut buffer, 1), 0);
+    assert_eq!(buffer, [8, 1500, 1480]);
+}
+
+// ---------------------------------------------------------------------------
+// (c) States that no list of calls leads to
+
+/// The quay with the floor's job looked past by the guess of job 1, whose report
+/// 1520 is stored, and job 2 built on it with 1540 stored.
+fn guessed() -> Record {
+    let mut record = quay(1);
+    for (job, value) in [(1, 1520), (2, 1540)] {
+        assert_eq!(step(&mut record, 1, job, 0, 0), 0);
+        assert_eq!(step(&mut record, 3, job, value, 0), 0);
+    }
+    assert_eq!(record.runs[1].bypassed, 1);
+    assert_eq!(record.runs[2].sources, [2, 0, 0, 0]);
+    assert_eq!(record.runs[2].handed, [1520, 0, 0, 0]);
+    record
+}
+
+#[test]
+fn settled_by_a_guess_never_started() {
+    let mut record = guessed();
+    record.committed[0] = 2;
+    assert_eq!(answers(&record, 0), [13; 5]);
+    // Job 1 is ready, and its guess stands; job 2 is not ready.
+    assert_eq!(answers(&record, 1), [17, 13, 13, 13, 0]);
+    assert_eq!(answers(&record, 2), [15, 13, 13, 13, 15]);
+    assert_eq!(record.choose(), (0, 4, 1, 2));
+    // With mark 1 the guess of job 1 has fallen, and with it that of job 2.
+    record.runs[0].wrote = 1;
+    assert_eq!(record.ask_job(0).wrote, 1);
+    assert_eq!(answers(&record, 1), [0, 13, 13, 13, 18]);
+    assert_eq!(answers(&record, 2), [15, 13, 13, 13, 15]);
+    assert_eq!(record.choose(), (0, 0, 1, 2));
+    // The mark counts only once the job is settled.
+    record.committed[0] = 0;
+    assert_eq!(record.ask_job(0).wrote, 0);
+    assert_eq!(answers(&record, 1), [15, 13, 13, 13, 15]);
+    record.committed = [1; 128];
+    record.committed[2] = 0;
+    assert_eq!(answers(&record, 2), [0, 13, 13, 13, 18]);
+}
+
+#[test]
+fn own_run_out_of_a_settled_job() {
+    let mut record = quay(1);
+    record.committed[1] = 2;
+    record.running[1] = 1;
+    record.runs[1].sources[2] = 1;
+    assert_eq!(answers(&record, 1), [13, 13, 0, 13, 13]);
+    assert_eq!(step(&mut record, 2, 1, 9, 1), 16);
+    assert_eq!(step(&mut record, 2, 1, 9, 0), 0);
+    assert_eq!(
+        (record.committed[1], record.running[1], record.phase[1]),
+        (1, 0, 0)
+    );
+    assert_eq!(record.cells[..2], [9, 1480]);
+    // A report changes no origins.
+    assert_eq!(record.runs[1].sources, [0, 0, 1, 0]);
+}
+
+#[test]
+fn guess_out_of_a_settled_job() {
+    let mut record = quay(1);
+    record.committed[0] = 1;
+    record.phase[0] = 1;
+    record.runs[0].handed = [4, 0, 0, 6];
+    assert_eq!(answers(&record, 0), [13, 13, 13, 0, 13]);
+    assert_eq!(step(&mut record, 3, 0, 9, 1), 0);
+    assert_eq!((record.committed[0], record.phase[0]), (1, 2));
+    assert_eq!(record.ask_job(0).wrote, 1);
+    assert_eq!(record.cells[..2], [1500, 1480]);
+    // The unused places of a report are 0, whatever was handed there.
+    assert_eq!(record.runs[0].reported, [9, 0, 0, 0]);
+    record.phase[0] = 1;
+    assert_eq!(step(&mut record, 3, 0, 9, 0), 0);
+    assert_eq!(record.runs[0].reported, [4, 0, 0, 0]);
+    assert_eq!(record.runs[0].handed, [4, 0, 0, 6]);
+}
+
+#[test]
+fn own_run_and_guess_out_together() {
+    let mut record = guessed();
+    record.running[1] = 1;
+    // Its stored report is still there for job 2 to take.
+    record.phase[2] = 0;
+    assert_eq!(record.clone().step(1, 2, [0; 4], 0), (0, [1520, 0, 0, 0]));
+    record.committed[0] = 1;
+    assert_eq!(answers(&record, 1), [13, 13, 0, 13, 0]);
+    assert_eq!(record.choose(), (0, 4, 1, 2));
+    assert_eq!(step(&mut record, 4, 1, 0, 0), 0);
+    assert_eq!(
+        (record.committed[1], record.running[1], record.phase[1]),
+        (2, 1, 2)
+    );
+    assert_eq!(record.cells[0], 1520);
+    assert_eq!(step(&mut record, 2, 1, 33, 0), 0);
+    assert_eq!(
+        (record.committed[1], record.running[1], record.phase[1]),
+        (1, 0, 2)
+    );
+    assert_eq!(record.cells[0], 33);
+}
+
+#[test]
+fn thrown_away_without_an_own_run() {
+    let mut record = guessed();
+    record.phase[1] = 3;
+    // It has no stored report and lets the guess of job 2 fall.
+    assert_eq!(answers(&record, 1), [15, 13, 13, 13, 13]);
+    record.committed[0] = 1;
+    // It does not stand, fallen or not.
+    assert_eq!(answers(&record, 1), [0, 13, 13, 13, 13]);
+    assert_eq!(record.choose(), (0, 0, 1, 2));
+    let mut third = record.clone();
+    third.phase[2] = 0;
+    assert_eq!(answers(&third, 2), [15, 15, 13, 13, 13]);
+    assert_eq!(step(&mut record, 0, 1, 0, 0), 0);
+    assert_eq!((record.running[1], record.phase[1]), (1, 3));
+    assert_eq!(
+        record.runs[1],
+        Run {
+            handed: [1500, 0, 0, 0],
+            ..Run::default()
+        }
+    );
+    assert_eq!(step(&mut record, 2, 1, 5, 0), 0);
+    assert_eq!(answers(&record, 2), [0, 13, 13, 13, 18]);
+}
+
+#[test]
+fn taken_from_a_job_without_a_guess() {
+    let mut record = guessed();
+    record.committed[0] = 1;
+    record.committed[1] = 1;
+    // Never started: neither fallen nor thrown away, whatever it looked past.
+    record.phase[1] = 0;
+    record.runs[0].wrote = 1;
+    assert_eq!(answers(&record, 2), [17, 13, 13, 13, 0]);
+    // Out or stored, it has fallen, also when its job is settled.
+    for phase in [1, 2, 3] {
+        record.phase[1] = phase;
+        assert_eq!(answers(&record, 2), [0, 13, 13, 13, 18]);
+    }
+}
+
+#[test]
+fn origins_that_are_no_writers() {
+    let mut record = quay(1);
+    // Job 3 conflicts with none; it is ready, and yet its guess is stored.
+    record.phase[3] = 2;
+    record.runs[3].reported = [44, 45, 46, 47];
+    assert_eq!(answers(&record, 3), [17, 13, 13, 13, 0]);
+    assert_eq!(record.choose(), (0, 4, 3, 1));
+    // A shift that it looked past is settled with mark 1.
+    record.runs[3].bypassed = 1 << 1;
+    record.committed[1] = 1;
+    assert_eq!(answers(&record, 3), [17, 13, 13, 13, 0]);
+    record.runs[1].wrote = 1;
+    assert_eq!(answers(&record, 3), [0, 13, 13, 13, 18]);
+    record.runs[3].bypassed = 0;
+    // A source in a place without an access, thrown away.
+    record.runs[3].sources = [0, 0, 0, 3];
+    assert_eq!(answers(&record, 3), [17, 13, 13, 13, 0]);
+    record.phase[2] = 3;
+    assert_eq!(answers(&record, 3), [0, 13, 13, 13, 18]);
+    record.phase[2] = 0;
+    assert_eq!(step(&mut record, 4, 3, 0, 0), 0);
+    assert_eq!(record.cells[..3], [1500, 44, 0]);
+    assert_eq!((record.committed[3], record.phase[3]), (2, 2));
+    assert_eq!(record.runs[3].reported, [44, 45, 46, 47]);
+}
+
+#[test]
+fn stored_values_of_cells_not_written() {
+    let free = job(0, 0, &[(0, READ), (1, WRITE), (2, MAYBE)]);
+    let mut record = record(&[1, 2, 3, 4], &[free], 0);
+    record.phase[0] = 2;
+    record.runs[0].reported = [10, 20, 30, 40];
+    // Guessing is off, but only starting a guess asks for that.
+    assert_eq!(answers(&record, 0), [17, 12, 13, 13, 0]);
+    let mut marked = record.clone();
+    assert_eq!(step(&mut record, 4, 0, 0, 0), 0);
+    assert_eq!(record.cells[..4], [1, 20, 3, 4]);
+    marked.runs[0].wrote = 1;
+    assert_eq!(step(&mut marked, 4, 0, 0, 0), 0);
+    assert_eq!(marked.cells[..4], [1, 20, 30, 4]);
+    assert_eq!(marked.ask_job(0).wrote, 1);
+}
+
+#[test]
+fn mark_one_without_mode_two() {
+    let mut record = guessed();
+    record.committed[0] = 1;
+    record.runs[1].wrote = 1;
+    assert_eq!(step(&mut record, 4, 1, 0, 0), 0);
+    assert_eq!(record.cells[0], 1520);
+    assert_eq!(record.ask_job(1).wrote, 1);
+    assert_eq!(answers(&record, 2), [17, 13, 13, 13, 0]);
+    record.runs[2].bypassed = 2;
+    assert_eq!(answers(&record, 2), [0, 13, 13, 13, 18]);
+}
+
+#[test]
+fn accesses_past_the_arity() {
+    let mut record = quay(1);
+    for job in 0..4 {
+        record.jobs[job].accesses[1] = (1, MAYBE);
+        record.jobs[job].accesses[3] = (0, MAYBE);
+    }
+    // No conflict with job 3, no mode 2 for its mark, nothing handed.
+    assert_eq!(record.step(0, 3, [0; 4], 0), (0, [1480, 0, 0, 0]));
+    assert_eq!(step(&mut record, 2, 3, 9, 1), 16);
+    assert_eq!(step(&mut record, 2, 3, 9, 0), 0);
+    assert_eq!(record.cells[..2], [1500, 9]);
+    assert_eq!(record.ask_job(3).job.accesses[3], (0, MAYBE));
+    assert_eq!(record.choose(), (0, 0, 0, 3));
+}
+
+#[test]
+fn settled_before_its_turn() {
+    // Job 1 is settled, job 0 not: the chain still goes through it.
+    let mut record = quay(1);
+    record.committed[1] = 1;
+    assert_eq!(record.choose(), (0, 0, 0, 3));
+    // Going back, a settled writer is not met; the floor is looked past.
+    assert_eq!(record.clone().step(1, 2, [0; 4], 0), (0, [1500, 0, 0, 0]));
+    record.committed = [2; 128];
+    assert!(record.ask_batch().finished);
+    assert_eq!(record.choose(), (19, 0, 0, 0));
+    record.running = [1; 128];
+    assert!(record.ask_batch().finished);
+    record.sealed = 0;
+    assert!(!record.ask_batch().finished);
+    assert_eq!(record.choose(), (10, 0, 0, 0));
+    assert_eq!(answers(&record, 0), [10; 5]);
+    assert_eq!(record.ask_batch().speculating, 1);
+    assert_eq!(record.seal(0), 0);
+    assert_eq!((record.sealed, record.speculating), (1, 0));
+}
+
+#[test]
+fn every_job_out_of_reach() {
+    // All own runs are out though none but two was ready: only reports are left.
+    let mut record = quay(1);
+    record.running[..4].fill(1);
+    assert_eq!(record.choose(), (19, 0, 0, 0));
+    assert_eq!(step(&mut record, 2, 2, 8, 0), 0);
+    assert_eq!(record.cells[0], 8);
+    assert_eq!(record.choose(), (19, 0, 0, 0));
+}
+
+// ---------------------------------------------------------------------------
+// Damaged records
+
+/// Conflict straight from its sentence, without sets.
+fn conflict(one: &Job, other: &Job) -> bool {
+    let used = |job: &Job| job.accesses[..usize::from(job.arity)].to_vec();
+    used(one).iter().any(|a| {
+        used(other)
+            .iter()
+            .any(|b| a.0 == b.0 && (a.1 != 0 || b.1 != 0))
+    })
+}
+
+fn chain(record: &Record, job: usize, known: &mut [Option<u8>]) -> u8 {
+    if let Some(length) = known[job] {
+        return length;
+    }
+    let later = job + 1..usize::from(record.job_count);
+    let next = later.filter(|&k| conflict(&record.jobs[job], &record.jobs[k]));
+    let length = 1 + next.map(|k| chain(record, k, known)).max().unwrap_or(0);
+    known[job] = Some(length);
+    length
+}
+
+/// What the chooser is to name, from what the steps themselves answer.
+fn choice(record: &Record) -> (u8, u8, u8, u8) {
+    let count = usize::from(record.job_count);
+    let mut known = vec![None; count];
+    for number in [4, 0, 1] {
+        let allowed = (0..count).filter(|&job| step(&mut record.clone(), number, job, 0, 9) == 0);
+        let best = allowed
+            .map(|job| (chain(record, job, &mut known), 255 - job as u8))
+            .max();
+        if let Some((length, place)) = best {
+            return (0, number, 255 - place, length);
+        }
+    }
+    (19, 0, 0, 0)
+}
+
+/// Every field but those of the job's run, columns and cells is as before.
+fn others_kept(before: &Record, after: &Record, job: usize) {
+    let mut put_back = after.clone();
+    put_back.runs[job] = before.runs[job];
+    put_back.committed[job] = before.committed[job];
+    put_back.running[job] = before.running[job];
+    put_back.phase[job] = before.phase[job];
+    let held = before.jobs[job];
+    for &(cell, mode) in &held.accesses[..usize::from(held.arity)] {
+        if mode != READ {
+            put_back.cells[usize::from(cell)] = before.cells[usize::from(cell)];
+        }
+    }
+    assert_eq!(put_back, *before);
+}
+
+fn damage(dice: &mut Dice, record: &Record) -> Record {
+    let mut bytes = bytes_of(record);
+    let held = u64::from(record.job_count.max(1));
+    for _ in 0..1 + dice.below(4) {
+        let job = dice.below(held);
+        let at = match dice.below(8) {
+            0 => dice.below(4),
+            1 => 260 + 20 * job + dice.below(20),
+            2 => 2824 + 56 * job + 32 + dice.below(24),
+            3 => 2824 + 56 * job + dice.below(56),
+            4 => 9992 + job,
+            5 => 10120 + job,
+            6 => 10248 + job,
+            _ => dice.below(Record::SIZE as u64),
+        };
+        let small = if dice.one_in(3) {
+            dice.below(256)
+        } else {
+            dice.below(4)
+        };
+        bytes[at as usize] = if dice.one_in(3) {
+            bytes[at as usize] ^ 1 << dice.below(8)
+        } else {
+            small as u8
+        };
+    }
+    Record::from_bytes(&bytes)
+}
+
+#[test]
+fn damaged_records() {
+    let mut dice = Dice(0xDA3A_6ED0_1111_2222);
+    let mut in_form = 0;
+    let mut accepted = [0; 5];
+    for _ in 0..600 {
+        let inserts = 1 + dice.below(10);
+        let calls = dice.below(3 * inserts);
+        let sound = one_list(&mut dice, 4, inserts, calls, 1000).record;
+        for _ in 0..12 {
+            let record = damage(&mut dice, &sound);
+            if !record.in_form() {
+                out_of_form(&record);
+                continue;
+            }
+            in_form += 1;
+            for job in 0..usize::from(record.job_count) {
+                for number in 0..5 {
+                    let mut after = record.clone();
+                    if step(&mut after, number, job, -77, 0) == 0 {
+                        others_kept(&record, &after, job);
+                        assert!(after.in_form());
+                        accepted[usize::from(number)] += 1;
+                    }
+                }
+            }
+            let unsealed = record.sealed == 0;
+            let named = if unsealed {
+                (10, 0, 0, 0)
+            } else {
+                choice(&record)
+            };
+            assert_eq!(record.choose(), named);
+        }
+    }
+    assert!(in_form > 1500, "{in_form}");
+    assert!(accepted.iter().all(|&times| times > 80), "{accepted:?}");
+}
+
+// ---------------------------------------------------------------------------
+// How fast
+
+/// The best of five calls on each record, so that other work does not count.
+fn microseconds(name: &str, records: &[Record], mut call: impl FnMut(&mut Record)) {
+    let mut times = Vec::new();
+    for record in records {
+        let mut best = f64::MAX;
+        for _ in 0..5 {
+            let mut record = record.clone();
+            let begin = std::time::Instant::now();
+            call(&mut record);
+            best = best.min(begin.elapsed().as_secs_f64() * 1e6);
+        }
+        times.push(best);
+    }
+    let mean = times.iter().sum::<f64>() / times.len() as f64;
+    let slowest = times.iter().copied().fold(0.0, f64::max);
+    println!("{name:10} mean {mean:7.2}  slowest {slowest:7.2}");
+}
+
+/// `cargo test --release --offline --test records speed -- --ignored --nocapture`
+#[test]
+#[ignore]
+fn speed() {
+    let mut dice = Dice(5);
+    for (name, cells, inserts) in [
+        ("128 jobs", 64, 150),
+        ("128 jobs, 4 cells", 4, 200),
+        ("10 jobs", 5, 10),
+    ] {
+        println!("{name}, microseconds");
+        let mut records = Vec::new();
+        for list in 0..40 {
+            let sound = one_list(&mut dice, cells, inserts, 25 * list, 10_000).record;
+            records.extend((0..25).map(|_| damage(&mut dice, &sound)));
+        }
+        records.retain(Record::in_form);
+        let bytes = bytes_of(&records[0]);
+        microseconds("from_bytes", &records, |r| *r = Record::from_bytes(&bytes));
+        microseconds("in_form", &records, |r| assert!(r.in_form()));
+        microseconds("insert", &records, |r| {
+            assert!(r.insert(Job::default()) < 32)
+        });
+        microseconds("seal", &records, |r| assert!(r.seal(1) < 32));
+        for number in 0..5 {
+            let name = format!("step {number}");
+            microseconds(&name, &records, |r| {
+                let job = usize::from(r.job_count) - 1;
+                assert!(r.step(number, job, [0; 4], 0).0 < 32);
+            });
+        }
+        microseconds("choose", &records, |r| assert!(r.choose().0 < 32));
+        microseconds("ask_cell", &records, |r| assert!(r.ask_cell(0).0 < 32));
+        microseconds("ask_job", &records, |r| assert!(r.ask_job(0).refusal < 32));
+        microseconds("ask_batch", &records, |r| {
+            assert!(r.ask_batch().refusal < 32)
+        });
+        let mut buffer = [0; 64];
+        microseconds("copy_out", &records, |r| {
+            assert!(r.copy_out(&mut buffer, 0) < 32)
+        });
+    }
+}
