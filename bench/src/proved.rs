@@ -91,9 +91,9 @@ impl Engine for ByValue {
     fn step(&mut self, number: u8, job: usize, values: [i32; 4], wrote: u8) -> (u8, [i32; 4]) {
         let report = Report { values, wrote };
         let record = self.0 .0;
-        let stepped = unsafe { sorghemi_step_by_value(record, number, job, report) };
-        self.0 .0 = stepped.batch;
-        (stepped.handed.refusal, stepped.handed.values)
+        let started = unsafe { sorghemi_step_by_value(record, number, job, report) };
+        self.0 .0 = started.batch;
+        (started.refusal, started.handed)
     }
 
     fn choose(&self) -> Option<(u8, usize, u8)> {

@@ -74,16 +74,18 @@ typedef struct {
     uint8_t wrote;
 } sorghemi_report;
 
-/* What a step answers: the values handed to a run that it started, and four zeros otherwise. */
+/* What a step on a lent record answers: the values handed to a run that it started, and four zeros otherwise. */
 typedef struct {
     uint8_t refusal;
     int32_t values[4];
 } sorghemi_handed;
 
+/* The same from a step by value, with the record handed back. */
 typedef struct {
-    sorghemi_handed handed;
+    uint8_t refusal;
+    int32_t handed[4];
     sorghemi_batch batch;
-} sorghemi_stepped;
+} sorghemi_started;
 
 typedef struct {
     uint8_t refusal;
@@ -134,7 +136,7 @@ sorghemi_answer sorghemi_insert(sorghemi_batch batch, sorghemi_job job);
 sorghemi_answer sorghemi_seal(sorghemi_batch batch, uint8_t guessing);
 /* The step with the number, 0 to 4, on the job. Steps 0, 1 and 4 do not look at the report. */
 sorghemi_handed sorghemi_step(sorghemi_batch *batch, uint8_t number, size_t job, sorghemi_report report);
-sorghemi_stepped sorghemi_step_by_value(sorghemi_batch batch, uint8_t number, size_t job, sorghemi_report report);
+sorghemi_started sorghemi_step_by_value(sorghemi_batch batch, uint8_t number, size_t job, sorghemi_report report);
 sorghemi_choice sorghemi_choose(sorghemi_batch batch);
 sorghemi_cell_answer sorghemi_ask_cell(sorghemi_batch batch, size_t cell);
 sorghemi_job_answer sorghemi_ask_job(sorghemi_batch batch, size_t job);
@@ -160,7 +162,8 @@ static const uint32_t sorghemi_header_layout[] = {
     sizeof(sorghemi_access), SORGHEMI_AT(sorghemi_access, cell), SORGHEMI_AT(sorghemi_access, mode),
     sizeof(sorghemi_report), SORGHEMI_AT(sorghemi_report, values), SORGHEMI_AT(sorghemi_report, wrote),
     sizeof(sorghemi_handed), SORGHEMI_AT(sorghemi_handed, refusal), SORGHEMI_AT(sorghemi_handed, values),
-    sizeof(sorghemi_stepped), SORGHEMI_AT(sorghemi_stepped, handed), SORGHEMI_AT(sorghemi_stepped, batch),
+    sizeof(sorghemi_started), SORGHEMI_AT(sorghemi_started, refusal), SORGHEMI_AT(sorghemi_started, handed),
+    SORGHEMI_AT(sorghemi_started, batch),
     sizeof(sorghemi_answer), SORGHEMI_AT(sorghemi_answer, refusal), SORGHEMI_AT(sorghemi_answer, batch),
     sizeof(sorghemi_choice), SORGHEMI_AT(sorghemi_choice, refusal), SORGHEMI_AT(sorghemi_choice, step),
     SORGHEMI_AT(sorghemi_choice, job), SORGHEMI_AT(sorghemi_choice, chain),

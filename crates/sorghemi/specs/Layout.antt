@@ -25,8 +25,8 @@ report = 20 ∷ 0 ∷ 16 ∷ []
 abbrev handed : List ℕ
 handed = 20 ∷ 0 ∷ 4 ∷ []
 
-abbrev stepped : List ℕ
-stepped = 10400 ∷ 0 ∷ 24 ∷ []
+abbrev started : List ℕ
+started = 10400 ∷ 0 ∷ 4 ∷ 24 ∷ []
 
 abbrev answer : List ℕ
 answer = 10384 ∷ 0 ∷ 8 ∷ []
@@ -47,5 +47,5 @@ abbrev pub layout : List ℕ
 layout =
     1
     ∷ batch ++ run ++ jobSet ++ job ++ access
-    ++ report ++ handed ++ stepped ++ answer
+    ++ report ++ handed ++ started ++ answer
     ++ choice ++ cellAnswer ++ jobAnswer ++ batchAnswer

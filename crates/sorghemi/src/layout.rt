@@ -5,7 +5,7 @@ ghost use lib.ListN.{getD};
 ghost use Rattle.sorghemi.specs.Layout.{layout};
 
 /// The version of the list, then of each struct its size and the offsets of its fields in their order.
-const NUMBERS: [u32; 65] = [
+const NUMBERS: [u32; 66] = [
     // the version
     1,
     // Batch
@@ -49,9 +49,10 @@ const NUMBERS: [u32; 65] = [
     20,
     0,
     4,
-    // Stepped
+    // Started
     10400,
     0,
+    4,
     24,
     // Answer
     10384,
@@ -93,7 +94,7 @@ pub extern "C" fn sorghemi_layout(place: usize) -> u32
     ensures { λ r. ⌜ r ≡ getD layout place 0 ⌝ }
 {
     let numbers = NUMBERS;
-    if place < 65 {
+    if place < 66 {
         return numbers[place];
     }
     0

@@ -2,8 +2,6 @@
 //! the host owns. A record goes in by value and comes back with the answer; a step also has the lent form, in which
 //! the host lends its record and the step changes it.
 
-use engine::Batch;
-
 mod layout;
 mod opening;
 mod reading;
@@ -16,16 +14,9 @@ pub struct Report {
     pub wrote: u8,
 }
 
-/// What a step answers: 0 or the number of its refusal, and the values handed to a run, 0 each where none is started.
+/// What a step on a lent batch answers: 0 or the number of its refusal, and the values handed to a run, 0 each where none is started.
 #[repr(C)]
 pub struct Handed {
     pub refusal: u8,
     pub values: [i32; 4],
-}
-
-/// The same with the batch handed back.
-#[repr(C)]
-pub struct Stepped {
-    pub handed: Handed,
-    pub batch: Batch,
 }

@@ -1,11 +1,11 @@
 //! The five steps by their numbers, with the batch by value and with the batch lent.
 
 ghost use mathlib.Core.Path.{_≡_};
-ghost use Rattle.sorghemi.specs.Step.{steppedFor};
+ghost use Rattle.sorghemi.specs.Step.{steppedFor, handedBy};
 use crate::Handed;
 use crate::Report;
-use crate::Stepped;
 use engine::Batch;
+use engine::Started;
 
 /// The step with the number on the job, with the batch by value. Steps 0, 1 and 4 ignore the report.
 #[no_mangle]
@@ -14,29 +14,22 @@ pub extern "C" fn sorghemi_step_by_value(
     number: u8,
     job: usize,
     report: Report,
-) -> Stepped
+) -> Started
     ensures { λ r. ⌜ r ≡ steppedFor batch number job report ⌝ }
 {
-    let reported = report.values;
-    let started = batch.step(number, job, reported, report.wrote);
-    let values = started.handed;
-    let handed = Handed {
-        refusal: started.refusal,
-        values,
-    };
-    let next = started.batch;
-    Stepped {
-        handed,
-        batch: next,
-    }
+    let values = report.values;
+    batch.step(number, job, values, report.wrote)
 }
 
 /// The same step on a batch that the host lends: it holds what the by-value step hands back. A refusal leaves it as it was.
 #[no_mangle]
 pub extern "C" fn sorghemi_step(batch: &mut Batch, number: u8, job: usize, report: Report) -> Handed
-    ensures { λ r. ⌜ (now (batch .exit) ≡ steppedFor (now (batch .entry)) number job report .batch) × (r ≡ steppedFor (now (batch .entry)) number job report .handed) ⌝ }
+    ensures { λ r. ⌜ (now (batch .exit) ≡ steppedFor (now (batch .entry)) number job report .batch) × (r ≡ handedBy (steppedFor (now (batch .entry)) number job report)) ⌝ }
 {
-    let stepped = sorghemi_step_by_value(*batch, number, job, report);
-    *batch = stepped.batch;
-    stepped.handed
+    let started = sorghemi_step_by_value(*batch, number, job, report);
+    *batch = started.batch;
+    Handed {
+        refusal: started.refusal,
+        values: started.handed,
+    }
 }

@@ -123,9 +123,9 @@ impl Batch {
 
     /// The same step by value: the batch as it is after it, and the values.
     pub fn stepped(&self, step: Step, job: usize, report: Report) -> Result<(Batch, [i32; 4]), Refusal> {
-        let stepped = unsafe { raw::sorghemi_step_by_value(self.record, step as u8, job, report) };
-        Refusal::check(stepped.handed.refusal)?;
-        Ok((Batch { record: stepped.batch }, stepped.handed.values))
+        let started = unsafe { raw::sorghemi_step_by_value(self.record, step as u8, job, report) };
+        Refusal::check(started.refusal)?;
+        Ok((Batch { record: started.batch }, started.handed))
     }
 
     /// Starts the job's own run: the present heights of its cells.

@@ -23,7 +23,7 @@ pub fn wrapper_layout() -> Vec<u32> {
         Access { cell, mode }
         Report { values, wrote }
         Handed { refusal, values }
-        Stepped { handed, batch }
+        Started { refusal, handed, batch }
         Answer { refusal, batch }
         Choice { refusal, step, job, chain }
         CellAnswer { refusal, height }

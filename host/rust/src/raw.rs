@@ -65,7 +65,7 @@ pub struct Record {
     pub phase: [u8; 128],
 }
 
-/// What a step answers: the number of its refusal or 0, and the values handed to a run that it started, zeros otherwise.
+/// What a step on a lent record answers: the number of its refusal or 0, and the values handed to a run that it started, zeros otherwise.
 #[repr(C)]
 #[derive(Clone, Copy, Debug, PartialEq, Eq)]
 #[allow(missing_docs)]
@@ -74,12 +74,13 @@ pub struct Handed {
     pub values: [i32; 4],
 }
 
-/// The same with the record handed back.
+/// The same from a step by value, with the record handed back.
 #[repr(C)]
 #[derive(Clone, Copy, Debug, PartialEq, Eq)]
 #[allow(missing_docs)]
-pub struct Stepped {
-    pub handed: Handed,
+pub struct Started {
+    pub refusal: u8,
+    pub handed: [i32; 4],
     pub batch: Record,
 }
 
@@ -148,7 +149,7 @@ extern "C" {
     pub fn sorghemi_insert(batch: Record, job: Job) -> Answer;
     pub fn sorghemi_seal(batch: Record, guessing: u8) -> Answer;
     pub fn sorghemi_step(batch: *mut Record, number: u8, job: usize, report: Report) -> Handed;
-    pub fn sorghemi_step_by_value(batch: Record, number: u8, job: usize, report: Report) -> Stepped;
+    pub fn sorghemi_step_by_value(batch: Record, number: u8, job: usize, report: Report) -> Started;
     pub fn sorghemi_choose(batch: Record) -> Choice;
     pub fn sorghemi_ask_cell(batch: Record, cell: usize) -> CellAnswer;
     pub fn sorghemi_ask_job(batch: Record, job: usize) -> JobAnswer;

@@ -61,7 +61,7 @@ impl Both {
         let handed = unsafe { sorghemi_step(&mut self.ours, number, job, report) };
         let theirs = self.theirs.step(number, job, report.values, report.wrote);
         assert_eq!((handed.refusal, handed.values), theirs, "step {number} of job {job}, {report:?}, of {before:?}");
-        assert_eq!((by_value.handed, by_value.batch), (handed, self.ours));
+        assert_eq!((by_value.refusal, by_value.handed, by_value.batch), (handed.refusal, handed.values, self.ours));
         self.same_record(&format!("step {number} of job {job}"));
         handed.refusal
     }

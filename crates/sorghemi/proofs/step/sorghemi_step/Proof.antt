@@ -18,7 +18,7 @@ use contract.Monad.{Fun, fact}
 use contract.Running.{givenOf, tables, tablesOf}
 use types.Kit.{Given, ‵, raw, _⊛_, some, later, _$_, _∵_, !, qed, by, move, keep, drop, use0, use1, split, join, pick, rewrite, fsplit, fsplit3, fjoin, fjoin3, feqI, suffices, frame, await, done}
 use types.Run.{look, look-raw, store-raw, init, forget, stop, hop, fld, from, load, of-opd, and-then, no-more, assigns, land, returns, enter, alloc1, alloc0, params1, pass1, pass0, free1, free0}
-use types.Part.{whole, sub, look-in}
+use types.Part.{whole, sub, look-in, agg}
 use types.SemTy.{Body}
 use sound.WpLaws.{FmC, fmOf, WpFn-mono}
 use denote.RattleType.{owns}
@@ -40,18 +40,18 @@ use denote.Triple.Table.{entered, cited}
 use denote.Triple.Walked.{says, Stays, stay-ref, stay-none, walkOf, AllGo, goes-none, goes-ref, Walks, ends-at, walked, walk-meets}
 use denote.Exit.{yes}
 use Rattle.engine.specs.declared.Batch.{Batch}
+use Rattle.engine.specs.declared.Started.{Started}
 use Rattle.engine.proofs.Batch as batch
 use Rattle.engine.proofs.Batch.Laws as batch-laws
-use Rattle.sorghemi.specs.Step.{steppedFor}
+use Rattle.engine.proofs.Started as answer
+use Rattle.engine.proofs.Started.Laws as answer-laws
+use Rattle.sorghemi.specs.Step.{steppedFor, handedBy}
 use Rattle.sorghemi.specs.declared.Report.{Report}
 use Rattle.sorghemi.specs.declared.Handed.{Handed}
-use Rattle.sorghemi.specs.declared.Stepped.{Stepped}
 use Rattle.sorghemi.proofs.Report as report
 use Rattle.sorghemi.proofs.Report.Laws as report-laws
 use Rattle.sorghemi.proofs.Handed as handed
 use Rattle.sorghemi.proofs.Handed.Laws as handed-laws
-use Rattle.sorghemi.proofs.Stepped as answer
-use Rattle.sorghemi.proofs.Stepped.Laws as answer-laws
 use Rattle.sorghemi.proofs.step.sorghemi_step_by_value as by-value
 use Rattle.sorghemi.proofs.step.sorghemi_step_by_value.Symbol as by-value-def
 use Rattle.sorghemi.proofs.step.sorghemi_step_by_value.Symbol.{name as #by-value}
@@ -86,7 +86,7 @@ module _ {M : Type 1} (𝓤 : URA M) (H : Heap 𝓤) (A : Atoms 𝓤) (at-mem : 
   ByValue = tripleOf 𝓤 H A by-value.signature (by-value.spec 𝓤 H A at-mem run)
 
   -- Of what the by-value step ensures, the clause alone.
-  ensures : (b : Batch) (n j : ℕ) (p : Report) (r : Stepped)
+  ensures : (b : Batch) (n j : ℕ) (p : Report) (r : Started)
       → ent 𝓤 (ensured 𝓤 H A by-value.ended (by-value.clauses 𝓤 H A at-mem run) tt (b, (n, (j, (p, tt)))) tt r) (fact 𝓤 (r ≡ steppedFor b n j p))
   ensures b n j p r =
       exE 𝓤 _ (λ ws. snd∗ 𝓤 (sem 𝓤 H A (lasts by-value.ended tt (b, (n, (j, (p, tt)))) ws)) (fact 𝓤 (r ≡ steppedFor b n j p)))
@@ -105,22 +105,28 @@ module _ {M : Type 1} (𝓤 : URA M) (H : Heap 𝓤) (A : Atoms 𝓤) (W : Given
   Post = walkOf 𝓤 H A lent.ended stayed (lent.clauses 𝓤 H A at-mem run) .post (((κ, tt), (q, tt), tt, args, at), tt)
 
   -- The end: with the new batch seen behind the reference, the contract holds.
-  exits : (r : Stepped) → r ≡ steppedFor b n j p → Is handed.the-row (r .handed) (handed-val (r .handed) ∷ [])
+  exits : (r : Started) → r ≡ steppedFor b n j p → Is handed.the-row (handedBy r) (handed-val (handedBy r) ∷ [])
       → ent 𝓤
       (sep 𝓤 (A .obs γ (batch.the-row .coded .code (r .batch))) (sep 𝓤 (A .bor κ (Body (mem batch.the-row) block offset γ)) (A .lft κ q)))
-      (Post (handed-val (r .handed)))
+      (Post (handed-val (handedBy r)))
   exits r e handed-is =
       qed W (‵ (fobs γ (batch.the-row .coded .code (r .batch))) ∷ ‵ (fbor κ (Body (mem batch.the-row) block offset γ)) ∷ ‵ (flft κ q) ∷ []) ∵
       suffices ! _
-      (ends-at 𝓤 H A lent.ended stayed (lent.clauses 𝓤 H A at-mem run) W (((κ, tt), (q, tt), tt, args, at), tt) (handed-val (r .handed)) (r .handed)
+      (ends-at 𝓤 H A lent.ended stayed (lent.clauses 𝓤 H A at-mem run) W (((κ, tt), (q, tt), tt, args, at), tt) (handed-val (handedBy r)) (handedBy r)
       (r .batch, (tt, (tt, (tt, tt)))) (tt, (tt, (tt, (tt, tt))))) $
-      says ! (ap (λ (y : Stepped). y .batch) e, ap (λ (y : Stepped). y .handed) e) $
+      says ! (ap (λ (y : Started). y .batch) e, ap handedBy e) $
       nothing ! $ move ! (3 ∷ 0 ∷ []) $ join ! $ frame ! $
       feqI ! (List Val) (vptr block offset ∷ []) (vptr block offset ∷ []) refl $ fjoin3 ! $ nothing ! $
       owned ! report.the-row (Is report.the-row) (Struct.makes report.the-type report-laws.the-plain 𝓤 H A) p _ p-is $ fjoin ! $
       owned ! usize (Is usize) (uint-makes 𝓤 H A W w64) j _ (refl, j-fits) $ fjoin ! $
       owned ! u8 (Is u8) (uint-makes 𝓤 H A W w8) n _ (refl, n-fits) $ fjoin ! $ move ! (1 ∷ 0 ∷ []) $ fjoin ! $ frame ! $
-      owned ! handed.the-row (Is handed.the-row) (Struct.makes handed.the-type handed-laws.the-plain 𝓤 H A) (r .handed) _ handed-is $ done !
+      owned ! handed.the-row (Is handed.the-row) (Struct.makes handed.the-type handed-laws.the-plain 𝓤 H A) (handedBy r) _ handed-is $ done !
+
+  -- The answer beside the batch is made of two of the fields that the by-value step hands back.
+  made : (r : Started) (v : List Val) → Is answer.the-row r v → Is handed.the-row (handedBy r) (handed-val (handedBy r) ∷ [])
+  made r v r-is =
+      let parts = Struct.owed answer.the-type answer-laws.the-laws r v r-is in
+      Struct.owes handed.the-type handed-laws.the-laws (handedBy r) (parts .0, (parts .1 .0, tt))
 
   -- The call: what the by-value step asks for is had for nothing, since its parameters are plain data.
   abbrev call : ByValue 𝓤 H A at-mem run .Ghost
@@ -162,7 +168,7 @@ module _ {M : Type 1} (𝓤 : URA M) (H : Heap 𝓤) (A : Atoms 𝓤) (W : Given
         (and-then ! (load ! (from ! (stop !)) (look ! 16 refl))
         (and-then ! (load ! (from ! (stop !)) (look ! 14 refl)) (and-then ! (load ! (from ! (stop !)) (look ! 12 refl)) (no-more !))))) (λ v.
         use1 W
-        (later (some (λ (r : Stepped). (‵ ftrue ⊛ ‵ (answer.the-row .own r (v ∷ [])))
+        (later (some (λ (r : Started). (‵ ftrue ⊛ ‵ (answer.the-row .own r (v ∷ [])))
         ⊛ raw (ensured 𝓤 H A by-value.ended (by-value.clauses 𝓤 H A at-mem run) tt (b, (n, (j, (p, tt)))) tt r)))) (id⊢ 𝓤 _) $
         await ! tt $ pick ! (λ r. split ! $ move ! (1 ∷ []) $
         use1 W (raw (fact 𝓤 (r ≡ steppedFor b n j p))) (ensures 𝓤 H A at-mem run b n j p r) $ heard ! (r ≡ steppedFor b n j p) (λ e. split ! $ drop ! $
@@ -170,21 +176,24 @@ module _ {M : Type 1} (𝓤 : URA M) (H : Heap 𝓤) (A : Atoms 𝓤) (W : Given
         land ! (from ! (stop !)) (init ! 9 refl (Struct.lawful answer.the-type answer-laws.the-laws 𝓤 H A W .typed r _ r-is .0)) $
         rewrite ! 9 (λ (us : List Val). ‵ (fat fullShare answer-laws.mir l₅ 0 (only us))) (Struct.tells answer.the-type answer-laws.the-laws r (v ∷ []) r-is) refl $
         -- *_1 = _5.batch
-        assigns ! (of-opd ! (load ! (from ! (fld ! refl (stop !))) (look-in ! 9 (sub ! 1 refl (whole !))))) (from ! (hop ! (look ! 17 refl) (stop !)))
-        (store-raw ! 0 refl (Struct.lawful batch.the-type batch-laws.the-laws 𝓤 H A W .typed (r .batch) _ (Struct.owed answer.the-type answer-laws.the-laws r _ r-is .1 .0) .0)) $
-        -- _0 = _5.handed
-        assigns ! (of-opd ! (load ! (from ! (fld ! refl (stop !))) (look-in ! 9 (sub ! 0 refl (whole !))))) (from ! (stop !))
-        (init ! 19 refl (Struct.lawful handed.the-type handed-laws.the-laws 𝓤 H A W .typed (r .handed) _ (Struct.owed answer.the-type answer-laws.the-laws r _ r-is .0) .0)) $
+        assigns ! (of-opd ! (load ! (from ! (fld ! refl (stop !))) (look-in ! 9 (sub ! 2 refl (whole !))))) (from ! (hop ! (look ! 17 refl) (stop !)))
+        (store-raw ! 0 refl (Struct.lawful batch.the-type batch-laws.the-laws 𝓤 H A W .typed (r .batch) _ (Struct.owed answer.the-type answer-laws.the-laws r _ r-is .1 .1 .0) .0)) $
+        -- _0 = Handed { _5.refusal, _5.handed }
+        assigns !
+        (agg !
+        (and-then ! (load ! (from ! (fld ! refl (stop !))) (look-in ! 9 (sub ! 0 refl (whole !))))
+        (and-then ! (load ! (from ! (fld ! refl (stop !))) (look-in ! 9 (sub ! 1 refl (whole !)))) (no-more !)))) (from ! (stop !))
+        (init ! 19 refl (Struct.lawful handed.the-type handed-laws.the-laws 𝓤 H A W .typed (handedBy r) _ (made r _ r-is) .0)) $
         -- the borrow is closed at the new batch
         move ! (1 ∷ []) $ drop ! $
-        owned ! batch.the-row (Is batch.the-row) (Struct.makes batch.the-type batch-laws.the-plain 𝓤 H A) (r .batch) _ (Struct.owed answer.the-type answer-laws.the-laws r _ r-is .1 .0) $
+        owned ! batch.the-row (Is batch.the-row) (Struct.makes batch.the-type batch-laws.the-plain 𝓤 H A) (r .batch) _ (Struct.owed answer.the-type answer-laws.the-laws r _ r-is .1 .1 .0) $
         move ! (1 ∷ 0 ∷ []) $ closes ! tt batch.the-row (r .batch) (batch-val (r .batch) ∷ []) block offset $
         -- the locals go. In hand: [obs; the borrow; the token; true; what the others own; _6; …; _0; …]
         returns ! (look ! 17 refl) $
         forget ! 5 refl $ forget ! 7 refl $ forget ! 9 refl $ forget ! 11 refl $ forget ! 13 refl $ forget ! 15 refl $ forget ! 17 refl $
         move ! (17 ∷ 18 ∷ []) $ free1 ! $ move ! (15 ∷ 16 ∷ []) $ free1 ! $ move ! (13 ∷ 14 ∷ []) $ free1 ! $ move ! (11 ∷ 12 ∷ []) $ free1 ! $
         move ! (9 ∷ 10 ∷ []) $ free1 ! $ move ! (7 ∷ 8 ∷ []) $ free1 ! $ move ! (5 ∷ 6 ∷ []) $ free1 ! $ free0 ! $
-        keep ! (0 ∷ 1 ∷ 2 ∷ []) $ by ! (exits r e (Struct.owed answer.the-type answer-laws.the-laws r _ r-is .0)))))))))))))))
+        keep ! (0 ∷ 1 ∷ 2 ∷ []) $ by ! (exits r e (made r _ r-is)))))))))))))))
 
 module _ {M : Type 1} (𝓤 : URA M) (H : Heap 𝓤) (A : Atoms 𝓤) (W : Given 𝓤 H A) (at-mem : Memory → SProp 𝓤) (run : Routine → Fun 𝓤) where
   walks : (C : Calls 𝓤 H) (Λ : Loops 𝓤 H) → FmC 𝓤 H (W .laws) C → Triple 𝓤 (C #by-value) (ByValue 𝓤 H A at-mem run)
