@@ -1,12 +1,14 @@
-//! `bench [FILE]` measures the engines and prints the tables. The file has rows
-//! measured by other programs: name, median and best nanoseconds for a job, with
-//! tabs between. `bench --accesses` prints the batch for such programs.
+//! `bench [FILE [PROGRAM]]` measures the engines and prints the tables. The file
+//! has rows measured by other programs: name, median and best nanoseconds for a
+//! job, with tabs between. `bench --accesses` prints the batch for such programs.
+//! The program is `gaugebatch`, to be timed on plans.
 
 mod batch;
 mod drive;
 mod engine;
 mod measure;
 mod plain;
+mod plans;
 mod priced;
 #[cfg(feature = "proved")]
 mod proved;
@@ -33,11 +35,16 @@ const TIME_FOR_A_TURN: Duration = Duration::from_millis(100);
 const GROWTH_ROUNDS: usize = 3;
 
 fn main() {
-    let argument = std::env::args().nth(1);
-    match argument.as_deref() {
+    let arguments: Vec<String> = std::env::args().skip(1).collect();
+    match arguments.first().map(String::as_str) {
         Some("--accesses") => print_accesses(&Batch::of(JOBS)),
         Some(path) => print_tables(outside_rows(path)),
         None => print_tables(Vec::new()),
+    }
+    if let Some(program) = arguments.get(1) {
+        let batch = Batch::of(JOBS);
+        let drive = (subjects()[0].driven)(&batch);
+        plans::print(program, &batch, &drive.steps);
     }
 }
 
