@@ -129,6 +129,10 @@ typedef struct {
     bool finished;
 } sorghemi_batch_answer;
 
+#ifdef __cplusplus
+extern "C" {
+#endif
+
 /* The library. Refusals: open 1; insert 2 to 8; seal 2, 9; a step 10 to 18, and 21 for a number above 4; choose 10, 19;
  * ask_cell 5; ask_job 11; copy_out 20; and 32, before all others, where the record is out of form. */
 sorghemi_answer sorghemi_open(const int32_t *heights, size_t count);
@@ -145,6 +149,10 @@ sorghemi_batch_answer sorghemi_ask_batch(sorghemi_batch batch);
 uint8_t sorghemi_copy_out(sorghemi_batch batch, int32_t *buffer, size_t size, size_t at);
 /* The list of sizes and offsets that the library was built with; 0 past its end. */
 uint32_t sorghemi_layout(size_t place);
+
+#ifdef __cplusplus
+}
+#endif
 
 /* The same list as this header has it: a version, then of each struct its size and the offsets of its fields. */
 #define SORGHEMI_AT(type, field) ((uint32_t)offsetof(type, field))
