@@ -1,12 +1,15 @@
 -- A speculative run is forwarded from earlier jobs only.
-use Prim.Native.Nat.{ℕ, _≤_}
+use Prim.Native.Nat.{ℕ, zero, suc, _<_, _≤_}
 use native.Mathlib.Omega.{arith}
 use mathlib.Core.Bool.{Bool, true, false, cond}
 use mathlib.Core.List.{List}
+use mathlib.Core.Path.{_≡_}
+use lib.ListN.{getD}
 use Rattle.dependence.specs.declared.Job.{Job}
 use Rattle.dependence.specs.Job.{inUse, accessAt, jobAt}
-use Rattle.walk.specs.Sources.{sourceFor, sourceIn, committedIn}
+use Rattle.walk.specs.Sources.{sourceFor, sourceIn, sourcesOf, committedIn}
 use Rattle.walk.specs.SourceLaws.{source-le}
+use Rattle.engine.specs.Speculation.{SourcesHeld}
 
 pub source-limit : (jobs : List Job) (committed : List ℕ) (j place : ℕ) → sourceIn jobs committed j place ≤ j
 source-limit jobs committed j place = cases (inUse (jobAt jobs j) place)
@@ -14,3 +17,14 @@ source-limit jobs committed j place = cases (inUse (jobAt jobs j) place)
     cases : (used : Bool) → cond used (sourceFor jobs committed (accessAt (jobAt jobs j) place .cell) j) 0 ≤ j
     cases true = source-le (λ i. jobAt jobs i) (λ i. committedIn committed i) (accessAt (jobAt jobs j) place .cell) j
     cases false = omega arith
+
+-- So each of the four is a job's place, or none.
+pub sources-held : (jobs : List Job) (committed : List ℕ) (j : ℕ) (sources : List ℕ) → j < 128 → sources ≡ sourcesOf jobs committed j → SourcesHeld sources
+sources-held jobs committed j sources small e place here = rw e (cases place here)
+  where
+    cases : (place : ℕ) → place < 4 → getD (sourcesOf jobs committed j) place 0 ≤ 128
+    cases zero here = omega (arith, source-limit jobs committed j 0, small)
+    cases (suc zero) here = omega (arith, source-limit jobs committed j 1, small)
+    cases (suc (suc zero)) here = omega (arith, source-limit jobs committed j 2, small)
+    cases (suc (suc (suc zero))) here = omega (arith, source-limit jobs committed j 3, small)
+    cases (suc (suc (suc (suc place)))) here = absurd (omega arith)

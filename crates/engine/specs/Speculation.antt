@@ -1,5 +1,5 @@
 -- The tests on speculative runs as the code makes them, on the record's columns, and that they are the rules'.
-use Prim.Native.Nat.{ℕ, _-_}
+use Prim.Native.Nat.{ℕ, _-_, _<_, _≤_}
 use mathlib.Core.Bool.{Bool, false, cond, not, _&&_, _||_}
 use mathlib.Core.List.{List}
 use lib.Dec.{eqb}
@@ -43,6 +43,10 @@ unusableAt sources phases invalid place =
 
 abbrev pub unusableAny : List ℕ → List ℕ → List Bool → Bool
 unusableAny sources phases invalid = anyBelow 4 (unusableAt sources phases invalid)
+
+-- Each source is a job's place, or none.
+abbrev pub SourcesHeld : List ℕ → Type 0
+SourcesHeld sources = (place : ℕ) → place < 4 → getD sources place 0 ≤ 128
 
 -- What a place is handed, given what is present there and the sources.
 abbrev pub forwardedAt : Batch → Job → List ℤ → List ℕ → ℕ → ℤ

@@ -1,16 +1,19 @@
 -- What a step that is not refused at once promises to the code that goes on.
 use Prim.Native.Nat.{ℕ, _<_, _≤_}
 use native.Mathlib.Omega.{arith}
-use mathlib.Core.Bool.{Bool, true, false, cond, not}
+use mathlib.Core.Bool.{Bool, true, false, cond, not, _||_}
 use mathlib.Core.List.{List, [], _∷_}
-use mathlib.Core.Path.{_≡_, refl}
+use mathlib.Core.Path.{_≡_, refl, sym, ap, _∙_}
 use lib.Dec.{eqb, leb}
-use lib.ListN.{getD}
-use borrow.Author.Tests.{leb-false}
+use lib.ListN.{getD, set}
+use lib.Seq.{set-getD}
+use borrow.Author.Tests.{leb-false, eqb-true}
 use Rattle.laws.specs.Refusal.{Refusal, when, firstOf}
 use Rattle.laws.specs.Fold.{column, column-at}
 use Rattle.rules.specs.Refusals.{stepTests}
-use Rattle.dependence.specs.Ready.{ready}
+use Rattle.laws.specs.Search.{or-right}
+use Rattle.dependence.specs.Ready.{isCommitted, ready}
+use Rattle.rules.specs.Snapshot.{isStored}
 use Rattle.rules.specs.Speculation.{isInvalid, isReady}
 use Rattle.engine.specs.declared.Batch.{Batch}
 use Rattle.engine.specs.Record.{snapshotOf}
@@ -18,7 +21,7 @@ use Rattle.engine.specs.Form.{inForm}
 use Rattle.engine.specs.FormLaws.{form-counts}
 use Rattle.engine.specs.Opening.{refusalOn}
 use Rattle.engine.specs.OpeningLaws.{allowed-form, allowed-tests, next-passed}
-use Rattle.engine.specs.Steps.{stepRefusal}
+use Rattle.engine.specs.Steps.{stepRefusal, startSpeculationRefusal, speculationStarted, startedSpeculation}
 
 -- Where a step is refused at once, it is with that number.
 pub step-early : (b : Batch) (j : ℕ) (rest : List Refusal) → eqb (stepRefusal b j) 0 ≡ false
@@ -83,3 +86,43 @@ allowed-place b j rest e = step-place b j (allowed-step b j rest e)
 pub ready-is : (b : Batch) (j : ℕ) → isReady (snapshotOf b) j ≡ ready (b .jobs) (b .committed) j
 unfolding isReady ready
 ready-is b j = refl
+
+-- The same by the number `early` that the code was given on asking what every step asks: where it is 0, the job has a
+-- place and the step's own tests decide, and else it is the step's.
+module _ (b : Batch) (j : ℕ) {early : ℕ} (asked : early ≡ stepRefusal b j) where
+  pub refused-early : (rest : List Refusal) → eqb early 0 ≡ false → refusalOn b (stepTests (snapshotOf b) j rest) ≡ early
+  refused-early rest e = step-early b j rest (rw (← asked) e) ∙ sym asked
+
+  pub place-of : early ≡ 0 → j < 128
+  place-of e = step-place b j (sym asked ∙ e)
+
+  pub own-tests : early ≡ 0 → (rest : List Refusal) → refusalOn b (stepTests (snapshotOf b) j rest) ≡ firstOf rest
+  own-tests e = step-then b j (sym asked ∙ e)
+
+  pub held-of : early ≡ 0 → j < b .«job_count»
+  held-of e = step-held b j (sym asked ∙ e)
+
+  pub few-of : early ≡ 0 → b .«job_count» ≤ 128
+  few-of e = step-few b j (sym asked ∙ e)
+
+  pub invalid-of : early ≡ 0 → (flags : List Bool) → flags ≡ column 128 (b .«job_count») (isInvalid (snapshotOf b)) false
+      → getD flags j false ≡ isInvalid (snapshotOf b) j
+  invalid-of e = step-invalid b j (sym asked ∙ e)
+
+-- What an accepted start of a speculative run answers.
+pub speculation-accepted : (b : Batch) (j : ℕ) → startSpeculationRefusal b j ≡ 0 → startedSpeculation b j ≡ speculationStarted b j
+unfolding startedSpeculation
+speculation-accepted b j e = rw e
+
+-- The phase of a run that is committed stays: it was stored.
+pub stored-stays : (how : ℕ) (phases : List ℕ) (j : ℕ) (rest : List Refusal)
+    → firstOf (when (isCommitted how || not (isStored (getD phases j 0))) 13 ∷ rest) ≡ 0
+    → set phases j 2 ≡ phases
+stored-stays how phases j rest e =
+    let missed = next-passed (isCommitted how || not (isStored (getD phases j 0))) 13 rest (omega arith) e .0 in
+    let stored = eqb-true (getD phases j 0) 2 (held (eqb (getD phases j 0) 2) (or-right (isCommitted how) (not (isStored (getD phases j 0))) missed)) in
+    ap (set phases j) (sym stored) ∙ set-getD phases j 0
+  where
+    held : (t : Bool) → not t ≡ false → t ≡ true
+    held true e = refl
+    held false e = sym e

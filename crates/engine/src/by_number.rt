@@ -1,22 +1,9 @@
 //! The steps by their numbers 0 to 4, which serve plans and the chooser.
 
 ghost use mathlib.Core.Path.{_≡_};
-ghost use Rattle.engine.specs.ByNumber.{withoutValues, noSuchStep, stepped};
-use crate::Answer;
+ghost use Rattle.engine.specs.ByNumber.{noSuchStep, stepped};
 use crate::Batch;
 use crate::Started;
-
-/// The answer of a step that hands nothing out.
-fn without_values(answer: Answer) -> Started
-    ensures { λ r. ⌜ r ≡ withoutValues answer ⌝ }
-{
-    let batch = answer.batch;
-    Started {
-        refusal: answer.refusal,
-        handed: [0; 4],
-        batch,
-    }
-}
 
 impl Batch {
     /// The answer to a step number above 4.
@@ -45,9 +32,9 @@ impl Batch {
         match number {
             0 => self.start_own(j),
             1 => self.start_speculation(j),
-            2 => without_values(self.report_own(j, values, wrote)),
-            3 => without_values(self.report_speculation(j, values, wrote)),
-            4 => without_values(self.commit(j)),
+            2 => self.own_reported(j, values, wrote),
+            3 => self.speculation_reported(j, values, wrote),
+            4 => self.speculation_committed(j),
             5..=255 => self.no_such_step(),
         }
     }

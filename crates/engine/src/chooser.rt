@@ -5,12 +5,10 @@ ghost use Rattle.engine.specs.Chooser.{better, pickFor, refused, named, 
 ghost use Rattle.engine.specs.ChooserPass.{Surveyed, commitPasses, speculationPasses, ownPasses, stepPasses, stepCall};
 use crate::Batch;
 use crate::Choice;
-use crate::speculation::is_live;
 use crate::speculation::unusable_any;
-use crate::steps::both;
-use crate::steps::either;
-use crate::steps::first_of_four;
-use crate::steps::first_of_three;
+use crate::steps::commit_refusal;
+use crate::steps::start_own_refusal;
+use crate::steps::start_speculation_refusal;
 
 /// A job and the length of its chain; length 0 where no job is picked.
 struct Pick {
@@ -58,28 +56,21 @@ fn better(pick: Pick, allowed: bool, job: u8, chain: u8) -> Pick
 fn commit_passes(how: u8, phase: u8, ready: bool, invalid: bool) -> bool
     ensures { λ r. ⌜ r ≡ commitPasses how phase ready invalid ⌝ }
 {
-    let stored = phase == 2;
-    let wrong = either(how != 0, !stored);
-    first_of_three(wrong, 13, !ready, 15, invalid, 18) == 0
+    commit_refusal(how, phase, ready, invalid) == 0
 }
 
 /// Whether the own run of a job held may be started.
 fn own_passes(how: u8, running: u8, phase: u8, ready: bool, invalid: bool) -> bool
     ensures { λ r. ⌜ r ≡ ownPasses how running phase ready invalid ⌝ }
 {
-    let busy = either(how != 0, running != 0);
-    let live = is_live(phase);
-    let valid = both(live, !invalid);
-    first_of_three(busy, 13, !ready, 15, valid, 17) == 0
+    start_own_refusal(how, running, phase, ready, invalid) == 0
 }
 
 /// Whether the speculative run of a job held may be started, where speculation is on.
 fn speculation_passes(on: bool, how: u8, running: u8, phase: u8, ready: bool, missing: bool) -> bool
     ensures { λ r. ⌜ r ≡ speculationPasses on how running phase ready missing ⌝ }
 {
-    let started = either(running != 0, phase != 0);
-    let busy = either(how != 0, started);
-    first_of_four(!on, 12, busy, 13, ready, 14, missing, 15) == 0
+    start_speculation_refusal(on, how, running, phase, ready, missing) == 0
 }
 
 /// Whether the step may be taken on a job held: 4, 1, and 0 for any other number.
@@ -110,16 +101,17 @@ impl Batch {
         ensures { λ r. ⌜ r ≡ pickFor self (stepCall step) ⌝ }
     {
         let n = self.job_count as usize;
-        let on = self.speculating != 0;
+        // each column in a local: reading an element of `self` would copy the whole record
         let jobs = self.jobs;
         let committed = self.committed;
+        let outs = self.running;
         let phases = self.phase;
         let mut nearest = [0u8; 256];
         let mut pick = Pick { job: 0, chain: 0 };
         let mut j: usize = 0;
         while j < n {
             let how = committed[j];
-            let running = self.running[j];
+            let running = outs[j];
             let phase = phases[j];
             let is_ready = ready[j];
             let is_invalid = invalid[j];
@@ -131,6 +123,7 @@ impl Batch {
                 missing = unusable_any(sources, &phases, &invalid);
                 walk::nearest::note_job(job, how, (j + 1) as u8, &mut nearest);
             }
+            let on = self.speculating != 0;
             let allowed = step_passes(step, on, how, running, phase, is_ready, is_invalid, missing);
             let next = better(pick, allowed, j as u8, chain);
             pick = next;

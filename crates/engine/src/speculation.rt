@@ -137,14 +137,16 @@ impl Batch {
         requires { ⌜ self .«job_count» ≤ 128 ⌝ }
         ensures { λ r. ⌜ r ≡ column 128 (self .«job_count») (isInvalid (snapshotOf self)) false ⌝ }
     {
-        let n = self.job_count as usize;
+        // each column in a local: reading an element of `self` would copy the whole record
+        let runs = self.runs;
+        let how = self.committed;
         let phases = self.phase;
         let mut invalid = [false; 128];
         let mut wrote = JobSet::empty();
         let mut j: usize = 0;
-        while j < n {
-            let run = self.runs[j];
-            let committed = self.committed[j];
+        while j < (self.job_count as usize) {
+            let run = runs[j];
+            let committed = how[j];
             let phase = phases[j];
             let flag = invalid_run(run, phase, wrote, &phases, &invalid);
             invalid[j] = flag;

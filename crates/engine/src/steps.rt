@@ -1,16 +1,17 @@
 //! The five steps.
 
 ghost use mathlib.Core.Path.{_≡_};
-ghost use mathlib.Core.Bool.{_&&_, _||_};
+ghost use mathlib.Core.Bool.{not, _&&_, _||_};
 ghost use mathlib.Core.List.{[], _∷_};
-ghost use Prim.Native.Nat.{_<_, _≤_};
-ghost use lib.ListN.{getD};
+ghost use lib.Dec.{eqb};
 ghost use Rattle.laws.specs.Refusal.{when, firstOf};
-ghost use Rattle.engine.specs.Steps.{withJobChanged, newRun, reportedRun, speculationStarted};
-ghost use Rattle.engine.specs.Speculation.{forwardedAt};
-ghost use Rattle.engine.specs.Steps.{withOwnStarted, withSpeculationStarted, withOwnReported, withSpeculationReported, withCommitted};
-ghost use Rattle.engine.specs.Steps.{stepRefusal, discardedPhase, startOwnRefusal, ownStarted, startedOwn, startSpeculationRefusal, startedSpeculation};
-ghost use Rattle.engine.specs.Steps.{reportOwnRefusal, reportedOwn, reportSpeculationRefusal, reportedSpeculation, commitRefusal, committedBy};
+ghost use Rattle.dependence.specs.Ready.{isCommitted};
+ghost use Rattle.rules.specs.Snapshot.{neverStarted, isStored, isLive};
+ghost use Rattle.rules.specs.Values.{four, wroteRefused};
+ghost use Rattle.engine.specs.Speculation.{SourcesHeld, forwardedAt};
+ghost use Rattle.engine.specs.Steps.{newRun, reportedRun, stepRefusal, discardedPhase};
+ghost use Rattle.engine.specs.Steps.{startedOwn, startedSpeculation, reportedOwn, reportedSpeculation, committedBy};
+ghost use Rattle.engine.specs.ByNumber.{withoutValues};
 use crate::Answer;
 use crate::Batch;
 use crate::Run;
@@ -21,7 +22,7 @@ use dependence::Job;
 use jobset::JobSet;
 
 /// Whether one of the two holds.
-pub(crate) fn either(a: bool, b: bool) -> bool
+fn either(a: bool, b: bool) -> bool
     ensures { λ r. ⌜ r ≡ (a || b) ⌝ }
 {
     if a {
@@ -31,7 +32,7 @@ pub(crate) fn either(a: bool, b: bool) -> bool
 }
 
 /// Whether both hold.
-pub(crate) fn both(a: bool, b: bool) -> bool
+fn both(a: bool, b: bool) -> bool
     ensures { λ r. ⌜ r ≡ (a && b) ⌝ }
 {
     if a {
@@ -41,7 +42,7 @@ pub(crate) fn both(a: bool, b: bool) -> bool
 }
 
 /// The number of the first of the tests that holds, or 0.
-pub(crate) fn first_of_two(a: bool, first: u8, b: bool, second: u8) -> u8
+fn first_of_two(a: bool, first: u8, b: bool, second: u8) -> u8
     ensures { λ r. ⌜ r ≡ firstOf (when a first ∷ when b second ∷ []) ⌝ }
 {
     if a {
@@ -54,7 +55,7 @@ pub(crate) fn first_of_two(a: bool, first: u8, b: bool, second: u8) -> u8
 }
 
 /// The same for three tests.
-pub(crate) fn first_of_three(a: bool, first: u8, b: bool, second: u8, c: bool, third: u8) -> u8
+fn first_of_three(a: bool, first: u8, b: bool, second: u8, c: bool, third: u8) -> u8
     ensures { λ r. ⌜ r ≡ firstOf (when a first ∷ when b second ∷ when c third ∷ []) ⌝ }
 {
     if a {
@@ -64,7 +65,7 @@ pub(crate) fn first_of_three(a: bool, first: u8, b: bool, second: u8, c: bool, t
 }
 
 /// The same for four tests.
-pub(crate) fn first_of_four(
+fn first_of_four(
     a: bool,
     first: u8,
     b: bool,
@@ -105,6 +106,49 @@ fn discarded_phase(phase: u8) -> u8
     3
 }
 
+/// Why the own run of a job held is not started, or 0.
+pub(crate) fn start_own_refusal(how: u8, running: u8, phase: u8, ready: bool, invalid: bool) -> u8
+    ensures { λ r. ⌜ r ≡ firstOf (when (isCommitted how || not (eqb running 0)) 13 ∷ when (not ready) 15 ∷ when (isLive phase && not invalid) 17 ∷ []) ⌝ }
+{
+    let busy = either(how != 0, running != 0);
+    let live = is_live(phase);
+    let valid = both(live, !invalid);
+    first_of_three(busy, 13, !ready, 15, valid, 17)
+}
+
+/// Why the speculative run of a job held is not started, or 0.
+pub(crate) fn start_speculation_refusal(
+    on: bool,
+    how: u8,
+    running: u8,
+    phase: u8,
+    ready: bool,
+    missing: bool,
+) -> u8
+    ensures { λ r. ⌜ r ≡ firstOf (when (not on) 12 ∷ when (isCommitted how || (not (eqb running 0) || not (neverStarted phase))) 13 ∷ when ready 14 ∷ when missing 15 ∷ []) ⌝ }
+{
+    let started = either(running != 0, phase != 0);
+    let busy = either(how != 0, started);
+    first_of_four(!on, 12, busy, 13, ready, 14, missing, 15)
+}
+
+/// Why a report is not taken, whichever run it is on, or 0: that run is not out, or the mark is refused.
+fn report_refusal(out: bool, job: Job, wrote: u8) -> u8
+    ensures { λ r. ⌜ r ≡ firstOf (when (not out) 13 ∷ when (wroteRefused job wrote) 16 ∷ []) ⌝ }
+{
+    let refused = runs::wrote_refused(job, wrote);
+    first_of_two(!out, 13, refused, 16)
+}
+
+/// Why the speculative run of a job held is not committed, or 0.
+pub(crate) fn commit_refusal(how: u8, phase: u8, ready: bool, invalid: bool) -> u8
+    ensures { λ r. ⌜ r ≡ firstOf (when (isCommitted how || not (isStored phase)) 13 ∷ when (not ready) 15 ∷ when invalid 18 ∷ []) ⌝ }
+{
+    let stored = phase == 2;
+    let wrong = either(how != 0, !stored);
+    first_of_three(wrong, 13, !ready, 15, invalid, 18)
+}
+
 /// The run with a report.
 fn reported_run(job: Job, run: Run, values: [i32; 4], wrote: u8) -> Run
     ensures { λ r. ⌜ r ≡ reportedRun job run values wrote ⌝ }
@@ -119,6 +163,17 @@ fn reported_run(job: Job, run: Run, values: [i32; 4], wrote: u8) -> Run
         wrote,
         sources,
         bypassed,
+    }
+}
+
+/// The answer of a step that hands nothing out.
+fn without_values(started: Started) -> Answer
+    ensures { λ r. ⌜ r ≡ record { refusal = started .refusal; batch = started .batch } ⌝ }
+{
+    let batch = started.batch;
+    Answer {
+        refusal: started.refusal,
+        batch,
     }
 }
 
@@ -139,73 +194,27 @@ impl Batch {
         32
     }
 
-    /// The batch with other cells, and another run and other states of job `j`: every step is such a change.
-    fn with_job_changed(
-        mut self,
-        j: usize,
-        cells: [i32; 64],
-        run: Run,
-        committed: u8,
-        running: u8,
-        phase: u8,
-    ) -> Batch
-        requires { ⌜ j < 128 ⌝ }
-        ensures { λ r. ⌜ r ≡ withJobChanged self j cells run committed running phase ⌝ }
-    {
-        self.cells = cells;
-        self.runs[j] = run;
-        self.committed[j] = committed;
-        self.running[j] = running;
-        self.phase[j] = phase;
-        self
-    }
-
-    /// Why the own run of job `j` is not started, or 0.
-    fn start_own_refusal(self, j: usize) -> u8
-        ensures { λ r. ⌜ r ≡ startOwnRefusal self j ⌝ }
+    /// Step 0: starts the own run of job `j` and hands out the present values of its cells.
+    pub fn start_own(mut self, j: usize) -> Started
+        ensures { λ r. ⌜ r ≡ startedOwn self j ⌝ }
     {
         let early = self.step_refusal(j);
         if early != 0 {
-            return early;
+            return Started {
+                refusal: early,
+                handed: [0; 4],
+                batch: self,
+            };
         }
         let jobs = self.jobs;
         let committed = self.committed;
         let how = committed[j];
         let running = self.running[j];
         let phase = self.phase[j];
-        let busy = either(how != 0, running != 0);
         let ready = dependence::is_ready(jobs, committed, j);
         let flags = self.invalid_flags();
         let invalid = flags[j];
-        let live = is_live(phase);
-        let valid = both(live, !invalid);
-        first_of_three(busy, 13, !ready, 15, valid, 17)
-    }
-
-    /// The batch with the own run of job `j` out.
-    fn own_started(self, j: usize) -> Started
-        requires { ⌜ j < 128 ⌝ }
-        ensures { λ r. ⌜ r ≡ ownStarted self j ⌝ }
-    {
-        let job = self.jobs[j];
-        let cells = self.cells;
-        let handed = runs::present_values(job, cells);
-        let run = new_run(handed, [0; 4], JobSet { low: 0, high: 0 });
-        let old = self.phase[j];
-        let phase = discarded_phase(old);
-        let batch = self.with_job_changed(j, cells, run, 0, 1, phase);
-        Started {
-            refusal: 0,
-            handed,
-            batch,
-        }
-    }
-
-    /// Step 0: starts the own run of job `j` and hands out the present values of its cells.
-    pub fn start_own(self, j: usize) -> Started
-        ensures { λ r. ⌜ r ≡ startedOwn self j ⌝ }
-    {
-        let refusal = self.start_own_refusal(j);
+        let refusal = start_own_refusal(how, running, phase, ready, invalid);
         if refusal != 0 {
             return Started {
                 refusal,
@@ -213,16 +222,55 @@ impl Batch {
                 batch: self,
             };
         }
-        self.own_started(j)
+        let job = jobs[j];
+        let cells = self.cells;
+        let handed = runs::present_values(job, cells);
+        let run = new_run(handed, [0; 4], JobSet { low: 0, high: 0 });
+        let left = discarded_phase(phase);
+        self.runs[j] = run;
+        self.committed[j] = 0;
+        self.running[j] = 1;
+        self.phase[j] = left;
+        Started {
+            refusal: 0,
+            handed,
+            batch: self,
+        }
     }
 
-    /// Why the speculative run of job `j` is not started, or 0.
-    fn start_speculation_refusal(self, j: usize) -> u8
-        ensures { λ r. ⌜ r ≡ startSpeculationRefusal self j ⌝ }
+    /// What the speculative run is handed: at each place forwarded from its source, or present in the cell.
+    fn forwarded_values(self, job: Job, present: [i32; 4], sources: [u8; 4]) -> [i32; 4]
+        requires { ⌜ SourcesHeld sources ⌝ }
+        ensures { λ r. ⌜ r ≡ four (forwardedAt self job present sources) ⌝ }
+    {
+        let mut handed = present;
+        let mut place: usize = 0;
+        while place < 4 {
+            let source = sources[place] as usize;
+            if source != 0 {
+                let writer = self.jobs[source - 1];
+                let run = self.runs[source - 1];
+                let reported = run.reported;
+                let access = job.accesses[place];
+                let value = runs::value_for(writer, reported, access.cell);
+                handed[place] = value;
+            }
+            place += 1;
+        }
+        handed
+    }
+
+    /// Step 1: starts the speculative run of job `j`, as if the uncertain writers before it wrote nothing.
+    pub fn start_speculation(mut self, j: usize) -> Started
+        ensures { λ r. ⌜ r ≡ startedSpeculation self j ⌝ }
     {
         let early = self.step_refusal(j);
         if early != 0 {
-            return early;
+            return Started {
+                refusal: early,
+                handed: [0; 4],
+                batch: self,
+            };
         }
         let jobs = self.jobs;
         let committed = self.committed;
@@ -230,65 +278,12 @@ impl Batch {
         let how = committed[j];
         let running = self.running[j];
         let phase = phases[j];
-        let started = either(running != 0, phase != 0);
-        let busy = either(how != 0, started);
         let ready = dependence::is_ready(jobs, committed, j);
         let flags = self.invalid_flags();
         let sources = walk::sources(jobs, committed, j);
         let missing = unusable_any(sources, &phases, &flags);
         let on = self.speculating != 0;
-        first_of_four(!on, 12, busy, 13, ready, 14, missing, 15)
-    }
-
-    /// What the speculative run is handed at the place: forwarded from its source, or present in the cell.
-    fn forwarded_at(self, job: Job, present: [i32; 4], sources: [u8; 4], place: usize) -> i32
-        requires { ⌜ (place < 4) × (getD sources place 0 ≤ 128) ⌝ }
-        ensures { λ r. ⌜ r ≡ forwardedAt self job present sources place ⌝ }
-    {
-        let source = sources[place] as usize;
-        if source == 0 {
-            let value = present[place];
-            return value;
-        }
-        let w = source - 1;
-        let writer = self.jobs[w];
-        let run = self.runs[w];
-        let reported = run.reported;
-        let access = job.accesses[place];
-        runs::value_for(writer, reported, access.cell)
-    }
-
-    /// The batch with the speculative run of job `j` out.
-    fn speculation_started(self, j: usize) -> Started
-        requires { ⌜ j < 128 ⌝ }
-        ensures { λ r. ⌜ r ≡ speculationStarted self j ⌝ }
-    {
-        let jobs = self.jobs;
-        let committed = self.committed;
-        let job = jobs[j];
-        let cells = self.cells;
-        let sources = walk::sources(jobs, committed, j);
-        let bypassed = walk::bypassed_by(jobs, committed, j);
-        let present = runs::present_values(job, cells);
-        let a = self.forwarded_at(job, present, sources, 0);
-        let b = self.forwarded_at(job, present, sources, 1);
-        let c = self.forwarded_at(job, present, sources, 2);
-        let d = self.forwarded_at(job, present, sources, 3);
-        let handed = [a, b, c, d];
-        let run = new_run(handed, sources, bypassed);
-        let batch = self.with_job_changed(j, cells, run, 0, 0, 1);
-        Started {
-            refusal: 0,
-            handed,
-            batch,
-        }
-    }
-
-    /// Step 1: starts the speculative run of job `j`, as if the uncertain writers before it wrote nothing.
-    pub fn start_speculation(self, j: usize) -> Started
-        ensures { λ r. ⌜ r ≡ startedSpeculation self j ⌝ }
-    {
-        let refusal = self.start_speculation_refusal(j);
+        let refusal = start_speculation_refusal(on, how, running, phase, ready, missing);
         if refusal != 0 {
             return Started {
                 refusal,
@@ -296,144 +291,155 @@ impl Batch {
                 batch: self,
             };
         }
-        self.speculation_started(j)
+        let job = jobs[j];
+        let cells = self.cells;
+        let present = runs::present_values(job, cells);
+        let handed = self.forwarded_values(job, present, sources);
+        let bypassed = walk::bypassed_by(jobs, committed, j);
+        let run = new_run(handed, sources, bypassed);
+        self.runs[j] = run;
+        self.committed[j] = 0;
+        self.running[j] = 0;
+        self.phase[j] = 1;
+        Started {
+            refusal: 0,
+            handed,
+            batch: self,
+        }
     }
 
-    /// Why the report on the own run of job `j` is not taken, or 0.
-    fn report_own_refusal(self, j: usize, wrote: u8) -> u8
-        ensures { λ r. ⌜ r ≡ reportOwnRefusal self j wrote ⌝ }
+    /// Step 2 with the answer of a start, which hands out nothing.
+    pub(crate) fn own_reported(mut self, j: usize, values: [i32; 4], wrote: u8) -> Started
+        ensures { λ r. ⌜ r ≡ withoutValues (reportedOwn self j values wrote) ⌝ }
     {
         let early = self.step_refusal(j);
         if early != 0 {
-            return early;
+            return Started {
+                refusal: early,
+                handed: [0; 4],
+                batch: self,
+            };
         }
         let job = self.jobs[j];
         let running = self.running[j];
         let out = running != 0;
-        let refused = runs::wrote_refused(job, wrote);
-        first_of_two(!out, 13, refused, 16)
-    }
-
-    /// The batch with the report on the own run of job `j` written into the cells, and the job committed.
-    fn own_reported(self, j: usize, values: [i32; 4], wrote: u8) -> Batch
-        requires { ⌜ j < 128 ⌝ }
-        ensures { λ r. ⌜ r ≡ withOwnReported self j values wrote ⌝ }
-    {
-        let job = self.jobs[j];
+        let refusal = report_refusal(out, job, wrote);
+        if refusal != 0 {
+            return Started {
+                refusal,
+                handed: [0; 4],
+                batch: self,
+            };
+        }
         let old = self.runs[j];
         let run = reported_run(job, old, values, wrote);
         let reported = run.reported;
         let present = self.cells;
         let cells = runs::write_back(job, reported, wrote, present);
-        let phase = self.phase[j];
-        self.with_job_changed(j, cells, run, 1, 0, phase)
+        self.cells = cells;
+        self.runs[j] = run;
+        self.committed[j] = 1;
+        self.running[j] = 0;
+        Started {
+            refusal: 0,
+            handed: [0; 4],
+            batch: self,
+        }
     }
 
     /// Step 2: takes the report on the own run of job `j`, writes its cells and commits the job.
     pub fn report_own(self, j: usize, values: [i32; 4], wrote: u8) -> Answer
         ensures { λ r. ⌜ r ≡ reportedOwn self j values wrote ⌝ }
     {
-        let refusal = self.report_own_refusal(j, wrote);
-        if refusal != 0 {
-            return Answer {
-                refusal,
-                batch: self,
-            };
-        }
-        let batch = self.own_reported(j, values, wrote);
-        Answer { refusal: 0, batch }
+        without_values(self.own_reported(j, values, wrote))
     }
 
-    /// Why the report on the speculative run of job `j` is not taken, or 0.
-    fn report_speculation_refusal(self, j: usize, wrote: u8) -> u8
-        ensures { λ r. ⌜ r ≡ reportSpeculationRefusal self j wrote ⌝ }
+    /// Step 3 with the answer of a start, which hands out nothing.
+    pub(crate) fn speculation_reported(mut self, j: usize, values: [i32; 4], wrote: u8) -> Started
+        ensures { λ r. ⌜ r ≡ withoutValues (reportedSpeculation self j values wrote) ⌝ }
     {
         let early = self.step_refusal(j);
         if early != 0 {
-            return early;
+            return Started {
+                refusal: early,
+                handed: [0; 4],
+                batch: self,
+            };
         }
         let job = self.jobs[j];
         let phase = self.phase[j];
         let out = phase == 1;
-        let refused = runs::wrote_refused(job, wrote);
-        first_of_two(!out, 13, refused, 16)
-    }
-
-    /// The batch with the report on the speculative run of job `j` stored.
-    fn speculation_reported(self, j: usize, values: [i32; 4], wrote: u8) -> Batch
-        requires { ⌜ j < 128 ⌝ }
-        ensures { λ r. ⌜ r ≡ withSpeculationReported self j values wrote ⌝ }
-    {
-        let job = self.jobs[j];
+        let refusal = report_refusal(out, job, wrote);
+        if refusal != 0 {
+            return Started {
+                refusal,
+                handed: [0; 4],
+                batch: self,
+            };
+        }
         let old = self.runs[j];
         let run = reported_run(job, old, values, wrote);
-        let cells = self.cells;
-        let committed = self.committed[j];
-        let running = self.running[j];
-        self.with_job_changed(j, cells, run, committed, running, 2)
+        self.runs[j] = run;
+        self.phase[j] = 2;
+        Started {
+            refusal: 0,
+            handed: [0; 4],
+            batch: self,
+        }
     }
 
     /// Step 3: stores the report on the speculative run of job `j`; no cell changes.
     pub fn report_speculation(self, j: usize, values: [i32; 4], wrote: u8) -> Answer
         ensures { λ r. ⌜ r ≡ reportedSpeculation self j values wrote ⌝ }
     {
-        let refusal = self.report_speculation_refusal(j, wrote);
-        if refusal != 0 {
-            return Answer {
-                refusal,
-                batch: self,
-            };
-        }
-        let batch = self.speculation_reported(j, values, wrote);
-        Answer { refusal: 0, batch }
+        without_values(self.speculation_reported(j, values, wrote))
     }
 
-    /// Why the speculative run of job `j` is not committed, or 0.
-    fn commit_refusal(self, j: usize) -> u8
-        ensures { λ r. ⌜ r ≡ commitRefusal self j ⌝ }
+    /// Step 4 with the answer of a start, which hands out nothing.
+    pub(crate) fn speculation_committed(mut self, j: usize) -> Started
+        ensures { λ r. ⌜ r ≡ withoutValues (committedBy self j) ⌝ }
     {
         let early = self.step_refusal(j);
         if early != 0 {
-            return early;
+            return Started {
+                refusal: early,
+                handed: [0; 4],
+                batch: self,
+            };
         }
         let jobs = self.jobs;
         let committed = self.committed;
         let how = committed[j];
         let phase = self.phase[j];
-        let stored = phase == 2;
-        let wrong = either(how != 0, !stored);
         let ready = dependence::is_ready(jobs, committed, j);
         let flags = self.invalid_flags();
         let invalid = flags[j];
-        first_of_three(wrong, 13, !ready, 15, invalid, 18)
-    }
-
-    /// The batch with the stored report of job `j` written into the cells, and the job committed.
-    fn speculation_committed(self, j: usize) -> Batch
-        requires { ⌜ j < 128 ⌝ }
-        ensures { λ r. ⌜ r ≡ withCommitted self j ⌝ }
-    {
-        let job = self.jobs[j];
+        let refusal = commit_refusal(how, phase, ready, invalid);
+        if refusal != 0 {
+            return Started {
+                refusal,
+                handed: [0; 4],
+                batch: self,
+            };
+        }
+        let job = jobs[j];
         let run = self.runs[j];
         let reported = run.reported;
         let present = self.cells;
-        let cells = runs::write_back(job, reported, run.wrote, present);
-        let running = self.running[j];
-        self.with_job_changed(j, cells, run, 2, running, 2)
+        let written = runs::write_back(job, reported, run.wrote, present);
+        self.cells = written;
+        self.committed[j] = 2;
+        Started {
+            refusal: 0,
+            handed: [0; 4],
+            batch: self,
+        }
     }
 
     /// Step 4: commits job `j` by its speculative run, whose stored report is written into the cells.
     pub fn commit(self, j: usize) -> Answer
         ensures { λ r. ⌜ r ≡ committedBy self j ⌝ }
     {
-        let refusal = self.commit_refusal(j);
-        if refusal != 0 {
-            return Answer {
-                refusal,
-                batch: self,
-            };
-        }
-        let batch = self.speculation_committed(j);
-        Answer { refusal: 0, batch }
+        without_values(self.speculation_committed(j))
     }
 }

@@ -90,8 +90,8 @@ fn stored_at(job: Job, handed: [i32; 4], reported: [i32; 4], wrote: u8, place: u
     if writes_at(job, wrote, place) {
         return reported[place];
     }
-    let arity = job.arity as usize;
-    if arity <= place {
+    let used = job.arity as usize;
+    if used <= place {
         return 0;
     }
     handed[place]

@@ -23,8 +23,8 @@ returns c =
     let a = asked .before .args in
     rw (← asked .writes-at .ensures, c .before .if1 .taken, back (getD (a .t3) (a .place) (pos 0)) (c .result .given))
 
-cast-arity : tie.Need-cast-arity
-cast-arity c = search needs
+cast-used : tie.Need-cast-used
+cast-used c = search needs
 
 -- a place that is not in use
 returns-2 : tie.Need-returns-2
@@ -58,7 +58,7 @@ stored-at-spec =
     mul-result
     array-copy-out-result
     returns
-    cast-arity
+    cast-used
     returns-2
     mul-result-2
     array-copy-out-result-2

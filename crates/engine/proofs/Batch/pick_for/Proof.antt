@@ -17,7 +17,7 @@ use Rattle.engine.proofs.Batch.pick_for.Tie as tie
 
 -- the best of the jobs before j; for step 1 also the nearest writers among them
 abbrev Inv-loop : tie.InvT-loop
-Inv-loop step self ready invalid chains n on jobs committed phases nearest₀ pick₀ j₀ nearest pick j =
+Inv-loop self step ready invalid chains n jobs committed outs phases nearest₀ pick₀ j₀ nearest pick j =
     (j ≤ n)
     × (n ≤ 128)
     × (n ≡ self .«job_count»)
@@ -25,7 +25,7 @@ Inv-loop step self ready invalid chains n on jobs committed phases nearest₀ pi
     × (step ≡ 1 → nearest ≡ nearestBefore (self .jobs) (self .committed) j)
 
 abbrev μ-loop : tie.MeasureT-loop
-μ-loop step self ready invalid chains n on jobs committed phases nearest₀ pick₀ j₀ nearest pick j = n - j
+μ-loop self step ready invalid chains n jobs committed outs phases nearest₀ pick₀ j₀ nearest pick j = n - j
 
 cast-n : tie.Need-cast-n Inv-loop μ-loop
 cast-n c = omega arith
@@ -33,15 +33,15 @@ cast-n c = omega arith
 -- among no jobs
 loop-holds : tie.Need-loop-holds Inv-loop μ-loop
 loop-holds c =
-    let s = c .before .before .before in
-    let b = s .args .t1 in
+    let s = c .before .before .before .before .before in
+    let b = s .args .self in
     (omega arith, s .pre .few, refl, pick-none b (stepCall (s .args .step)), λ one. nearest-none (b .jobs) (b .committed))
 
 array-read-how : tie.Need-array-read-how Inv-loop μ-loop
 array-read-how c = omega arith
 
-element-copy-out-running : tie.Need-element-copy-out-running Inv-loop μ-loop
-element-copy-out-running c = omega arith
+array-read-running : tie.Need-array-read-running Inv-loop μ-loop
+array-read-running c = omega arith
 
 array-read-phase : tie.Need-array-read-phase Inv-loop μ-loop
 array-read-phase c = omega arith
@@ -67,8 +67,8 @@ sources-by-requires c κs = search needs
 -- both columns have 128 places
 unusable-any-requires : tie.Need-unusable-any-requires Inv-loop μ-loop
 unusable-any-requires c κs =
-    let s = c .before .before .before .before .before .before .before .before .before .before .before .before in
-    let long : length (s .args .t1 .phase) ≡ 128 = search needs in
+    let s = c .before .before .before .before .before .before .before .before .before .before .before .before .before in
+    let long : length (s .args .self .phase) ≡ 128 = search needs in
     (long, ap length (s .pre .invalid-are) ∙ length-column 128 _ _ _)
 
 add-note-job : tie.Need-add-note-job Inv-loop μ-loop
@@ -98,28 +98,28 @@ loop-less c = omega arith
 -- the turn of job j; step 1 has read its sources in the table and noted it there
 loop-again : tie.Need-loop-again Inv-loop μ-loop
 loop-again c =
-    let m = c .before .before in
-    let l = m .before .before .before .loop in
-    let s = m .before .before .before .before .before .before .before in
+    let m = c .before .before .before in
+    let l = m .before .before .loop in
+    let s = m .before .before .before .before .before .before .before .before in
     let a = s .args in
-    let held : l .j < a .t1 .«job_count» = omega arith in
+    let held : l .j < a .self .«job_count» = omega arith in
     let turn : a .step ≡ 1
-    → (m .if1 .missing ≡ sourceMissing (snapshotOf (a .t1)) (l .j))
-    × (m .if1 .nearest ≡ nearestBefore (a .t1 .jobs) (a .t1 .committed) (l .j + 1)) = λ one.
+    → (m .if1 .missing ≡ sourceMissing (snapshotOf (a .self)) (l .j))
+    × (m .if1 .nearest ≡ nearestBefore (a .self .jobs) (a .self .committed) (l .j + 1)) = λ one.
     ⊎-elim
     (λ w.
-    let from = w .3 .ensures .0 ∙ rw (l .inv .4 one) (nearest-sources (a .t1 .jobs) (a .t1 .committed) (l .j) (w .3 .ensures .1)) in (
-      w .10 ∙ w .6 .ensures ∙ missing-is (a .t1) (l .j) (w .3 .result) (a .t4) held (s .pre .few) from (s .pre .invalid-are),
-      w .9 ∙ w .8 .ensures ∙ rw (l .inv .4 one) (nearest-more (a .t1 .jobs) (a .t1 .committed) (l .j)),
+    let from = w .3 .ensures .0 ∙ rw (l .inv .4 one) (nearest-sources (a .self .jobs) (a .self .committed) (l .j) (w .3 .ensures .1)) in (
+      w .10 ∙ w .6 .ensures ∙ missing-is (a .self) (l .j) (w .3 .result) (a .t4) held (s .pre .few) from (s .pre .invalid-are),
+      w .9 ∙ w .8 .ensures ∙ rw (l .inv .4 one) (nearest-more (a .self .jobs) (a .self .committed) (l .j)),
     ))
     (λ w. absurd (w .0 .left one))
     (m .if1 .came) in (
       omega arith,
       l .inv .1,
       l .inv .2,
-      pick-step (a .t1) (a .t3) (a .t4) (a .t5) (s .pre) (l .j) held (stepCall (a .step)) (l .pick) (c .better .result)
+      pick-step (a .self) (a .t3) (a .t4) (a .t5) (s .pre) (l .j) held (stepCall (a .step)) (l .pick) (c .better .result)
           (c .before .step-passes .result) (l .inv .3)
-          (step-is (a .t1) (a .t3) (a .t4) (a .t5) (s .pre) (l .j) held (a .step) (λ one. turn one .0) (c .before .step-passes .ensures))
+          (step-is (a .self) (a .t3) (a .t4) (a .t5) (s .pre) (l .j) held (a .step) (λ one. turn one .0) (c .before .step-passes .ensures))
           (c .better .ensures),
       λ one. turn one .1,
     )
@@ -128,7 +128,7 @@ loop-again c =
 returns : tie.Need-returns Inv-loop μ-loop
 returns c =
     let l = c .before .loop in
-    let e : l .j ≡ c .before .before .before .before .before .args .t1 .«job_count» = omega arith in
+    let e : l .j ≡ c .before .before .before .before .before .before .before .args .self .«job_count» = omega arith in
     rw (l .inv .3, e)
 
 pub pick-for-spec : {M : Type 1} → statement M
@@ -140,7 +140,7 @@ pick-for-spec =
     cast-n
     loop-holds
     array-read-how
-    element-copy-out-running
+    array-read-running
     array-read-phase
     array-read-is-ready
     array-read-is-invalid

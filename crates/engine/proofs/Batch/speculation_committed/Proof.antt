@@ -1,41 +1,150 @@
--- `Batch::speculation_committed` meets its contract.
+-- `Batch::speculation_committed` meets its contract: what every step asks, then its own tests, then the change.
+use native.Mathlib.Omega.{arith}
+use lib.Seq.{set-getD}
+use borrow.Author.Tests.{ne-eqb}
+use Rattle.engine.specs.Steps.{committedBy, withJobChanged}
+use Rattle.engine.specs.StepLaws.{refused-early, place-of, few-of, own-tests, invalid-of, ready-is, stored-stays}
+use mathlib.Core.Path.{sym, _∙_}
+use lib.ListN.{getD}
+use Rattle.engine.specs.Record.{noRun}
 use borrow.Author.Needs.{needs}
 use Rattle.engine.proofs.Batch.speculation_committed.Statement.{statement}
 use Rattle.engine.proofs.Batch.speculation_committed.Tie as tie
 
-mul-job : tie.Need-mul-job
-mul-job c = search needs
+step-refusal-requires : tie.Need-step-refusal-requires
+step-refusal-requires c κs = search needs
 
-element-copy-out-job : tie.Need-element-copy-out-job
-element-copy-out-job c = search needs
+-- refused at once
+returns : tie.Need-returns
+unfolding committedBy
+returns c =
+    let a = c .before .before .args in
+    let e = ne-eqb _ _ (c .if1 .taken) in
+    rw (refused-early (a .t1) (a .j) (c .before .step-refusal .ensures) _ e, e)
+
+array-read-how : tie.Need-array-read-how
+array-read-how c =
+    let e = c .before .before in
+    let a = e .before .before .args in
+    omega (arith, place-of (a .t1) (a .j) (e .before .step-refusal .ensures) (e .if1 .left))
+
+element-copy-out-phase : tie.Need-element-copy-out-phase
+element-copy-out-phase c =
+    let e = c .before .before in
+    let a = e .before .before .args in
+    omega (arith, place-of (a .t1) (a .j) (e .before .step-refusal .ensures) (e .if1 .left))
+
+is-ready-requires : tie.Need-is-ready-requires
+is-ready-requires c κs = search needs
+
+invalid-flags-requires : tie.Need-invalid-flags-requires
+invalid-flags-requires c κs =
+    let e = c .before .before .before .before in
+    let a = e .before .before .args in
+    few-of (a .t1) (a .j) (e .before .step-refusal .ensures) (e .if1 .left)
+
+array-read-invalid : tie.Need-array-read-invalid
+array-read-invalid c =
+    let e = c .before .before .before .before .before in
+    let a = e .before .before .args in
+    omega (arith, place-of (a .t1) (a .j) (e .before .step-refusal .ensures) (e .if1 .left))
+
+commit-refusal-requires : tie.Need-commit-refusal-requires
+commit-refusal-requires c κs = search needs
+
+-- refused by its own tests
+returns-2 : tie.Need-returns-2
+unfolding committedBy
+returns-2 c =
+    let r = c .before in
+    let flags = r .before in
+    let ready = flags .before in
+    let e = r .before .before .before .before .before .before in
+    let a = e .before .before .args in
+    let asked = e .before .step-refusal .ensures in
+    rw (
+      own-tests (a .t1) (a .j) asked (e .if1 .left) _,
+      ready-is (a .t1) (a .j),
+      ← ready .is-ready .ensures,
+      ← invalid-of (a .t1) (a .j) asked (e .if1 .left) (flags .invalid-flags .result) (flags .invalid-flags .ensures),
+      ← r .commit-refusal .ensures,
+      ne-eqb _ _ (c .if2 .taken),
+    )
+
+mul-job : tie.Need-mul-job
+mul-job c =
+    let e = c .before .before .before .before .before .before .before in
+    let a = e .before .before .args in
+    omega (arith, place-of (a .t1) (a .j) (e .before .step-refusal .ensures) (e .if1 .left))
+
+array-copy-out-job : tie.Need-array-copy-out-job
+array-copy-out-job c =
+    let e = c .before .before .before .before .before .before .before in
+    let a = e .before .before .args in
+    omega (arith, place-of (a .t1) (a .j) (e .before .step-refusal .ensures) (e .if1 .left))
 
 mul-run : tie.Need-mul-run
-mul-run c = search needs
+mul-run c =
+    let e = c .before .before .before .before .before .before .before .before in
+    let a = e .before .before .args in
+    omega (arith, place-of (a .t1) (a .j) (e .before .step-refusal .ensures) (e .if1 .left))
 
 element-copy-out-run : tie.Need-element-copy-out-run
-element-copy-out-run c = search needs
+element-copy-out-run c =
+    let e = c .before .before .before .before .before .before .before .before in
+    let a = e .before .before .args in
+    omega (arith, place-of (a .t1) (a .j) (e .before .step-refusal .ensures) (e .if1 .left))
 
 write-back-requires : tie.Need-write-back-requires
 write-back-requires c κs = search needs
 
-element-copy-out-running : tie.Need-element-copy-out-running
-element-copy-out-running c = search needs
+element-write-self : tie.Need-element-write-self
+element-write-self c =
+    let e = c .before .before .before .before .before .before .before .before .before .before .before .before in
+    let a = e .before .before .args in
+    omega (arith, place-of (a .t1) (a .j) (e .before .step-refusal .ensures) (e .if1 .left))
 
-with-job-changed-requires : tie.Need-with-job-changed-requires
-with-job-changed-requires c κs = search needs
-
-returns : tie.Need-returns
-returns c = rw (c .with-job-changed .ensures, c .before .before .write-back .ensures)
+-- accepted
+returns-3 : tie.Need-returns-3
+unfolding committedBy withJobChanged
+returns-3 c =
+    let t = c .before .before .before .before .before in
+    let r = t .before in
+    let flags = r .before in
+    let ready = flags .before in
+    let e = r .before .before .before .before .before .before in
+    let a = e .before .before .args in
+    let asked = e .before .step-refusal .ensures in
+    rw (
+      own-tests (a .t1) (a .j) asked (e .if1 .left) _,
+      ready-is (a .t1) (a .j),
+      ← ready .is-ready .ensures,
+      ← invalid-of (a .t1) (a .j) asked (e .if1 .left) (flags .invalid-flags .result) (flags .invalid-flags .ensures),
+      ← r .commit-refusal .ensures,
+      t .if2 .left,
+      c .write-back .ensures,
+      set-getD (a .t1 .runs) (a .j) noRun,
+      set-getD (a .t1 .running) (a .j) 0,
+      stored-stays (getD (a .t1 .committed) (a .j) 0) (a .t1 .phase) (a .j) _ (sym (r .commit-refusal .ensures) ∙ t .if2 .left),
+    )
 
 pub speculation-committed-spec : {M : Type 1} → statement M
 speculation-committed-spec =
     tie.close
     (tie.spec
+    step-refusal-requires
+    returns
+    array-read-how
+    element-copy-out-phase
+    is-ready-requires
+    invalid-flags-requires
+    array-read-invalid
+    commit-refusal-requires
+    returns-2
     mul-job
-    element-copy-out-job
+    array-copy-out-job
     mul-run
     element-copy-out-run
     write-back-requires
-    element-copy-out-running
-    with-job-changed-requires
-    returns)
+    element-write-self
+    returns-3)

@@ -1,45 +1,117 @@
--- `Batch::speculation_reported` meets its contract.
+-- `Batch::speculation_reported` meets its contract: what every step asks, then its own tests, then the change.
+use native.Mathlib.Omega.{arith}
+use lib.Seq.{set-getD}
+use borrow.Author.Tests.{ne-eqb}
+use Rattle.engine.specs.Steps.{reportedSpeculation, withJobChanged}
+use Rattle.engine.specs.StepLaws.{refused-early, place-of, own-tests}
 use borrow.Author.Needs.{needs}
 use Rattle.engine.proofs.Batch.speculation_reported.Statement.{statement}
 use Rattle.engine.proofs.Batch.speculation_reported.Tie as tie
 
+step-refusal-requires : tie.Need-step-refusal-requires
+step-refusal-requires c κs = search needs
+
+-- refused at once
+returns : tie.Need-returns
+unfolding reportedSpeculation
+returns c =
+    let a = c .before .before .args in
+    let e = ne-eqb _ _ (c .if1 .taken) in
+    rw (refused-early (a .t1) (a .j) (c .before .step-refusal .ensures) _ e, e)
+
 mul-job : tie.Need-mul-job
-mul-job c = search needs
+mul-job c =
+    let a = c .before .before .args in
+    omega (arith, place-of (a .t1) (a .j) (c .before .step-refusal .ensures) (c .if1 .left))
 
 element-copy-out-job : tie.Need-element-copy-out-job
-element-copy-out-job c = search needs
+element-copy-out-job c =
+    let a = c .before .before .args in
+    omega (arith, place-of (a .t1) (a .j) (c .before .step-refusal .ensures) (c .if1 .left))
+
+element-copy-out-phase : tie.Need-element-copy-out-phase
+element-copy-out-phase c =
+    let e = c .before in
+    let a = e .before .before .args in
+    omega (arith, place-of (a .t1) (a .j) (e .before .step-refusal .ensures) (e .if1 .left))
+
+report-refusal-requires : tie.Need-report-refusal-requires
+report-refusal-requires c κs = search needs
+
+-- refused by its own tests
+returns-2 : tie.Need-returns-2
+unfolding reportedSpeculation
+returns-2 c =
+    let r = c .before in
+    let e = r .before .before .before in
+    let a = e .before .before .args in
+    rw (own-tests (a .t1) (a .j) (e .before .step-refusal .ensures) (e .if1 .left) _, ← r .report-refusal .ensures, ne-eqb _ _ (c .if2 .taken))
 
 mul-old : tie.Need-mul-old
-mul-old c = search needs
+mul-old c =
+    let e = c .before .before .before .before in
+    let a = e .before .before .args in
+    omega (arith, place-of (a .t1) (a .j) (e .before .step-refusal .ensures) (e .if1 .left))
 
 element-copy-out-old : tie.Need-element-copy-out-old
-element-copy-out-old c = search needs
+element-copy-out-old c =
+    let e = c .before .before .before .before in
+    let a = e .before .before .args in
+    omega (arith, place-of (a .t1) (a .j) (e .before .step-refusal .ensures) (e .if1 .left))
 
 reported-run-requires : tie.Need-reported-run-requires
 reported-run-requires c κs = search needs
 
-element-copy-out-committed : tie.Need-element-copy-out-committed
-element-copy-out-committed c = search needs
+mul-run : tie.Need-mul-run
+mul-run c =
+    let e = c .before .before .before .before .before .before in
+    let a = e .before .before .args in
+    omega (arith, place-of (a .t1) (a .j) (e .before .step-refusal .ensures) (e .if1 .left))
 
-element-copy-out-running : tie.Need-element-copy-out-running
-element-copy-out-running c = search needs
+element-set-from-run : tie.Need-element-set-from-run
+element-set-from-run c =
+    let e = c .before .before .before .before .before .before in
+    let a = e .before .before .args in
+    omega (arith, place-of (a .t1) (a .j) (e .before .step-refusal .ensures) (e .if1 .left))
 
-with-job-changed-requires : tie.Need-with-job-changed-requires
-with-job-changed-requires c κs = search needs
+element-write-self : tie.Need-element-write-self
+element-write-self c =
+    let e = c .before .before .before .before .before .before in
+    let a = e .before .before .args in
+    omega (arith, place-of (a .t1) (a .j) (e .before .step-refusal .ensures) (e .if1 .left))
 
-returns : tie.Need-returns
-returns c = rw (c .with-job-changed .ensures, c .before .before .before .before .reported-run .ensures)
+-- accepted
+returns-3 : tie.Need-returns-3
+unfolding reportedSpeculation withJobChanged
+returns-3 c =
+    let t = c .before .before in
+    let r = t .before in
+    let e = r .before .before .before in
+    let a = e .before .before .args in
+    rw (
+      own-tests (a .t1) (a .j) (e .before .step-refusal .ensures) (e .if1 .left) _,
+      ← r .report-refusal .ensures,
+      t .if2 .left,
+      c .reported-run .ensures,
+      set-getD (a .t1 .committed) (a .j) 0,
+      set-getD (a .t1 .running) (a .j) 0,
+    )
 
 pub speculation-reported-spec : {M : Type 1} → statement M
 speculation-reported-spec =
     tie.close
     (tie.spec
+    step-refusal-requires
+    returns
     mul-job
     element-copy-out-job
+    element-copy-out-phase
+    report-refusal-requires
+    returns-2
     mul-old
     element-copy-out-old
     reported-run-requires
-    element-copy-out-committed
-    element-copy-out-running
-    with-job-changed-requires
-    returns)
+    mul-run
+    element-set-from-run
+    element-write-self
+    returns-3)

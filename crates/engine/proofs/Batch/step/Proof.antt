@@ -11,23 +11,14 @@ start-own-requires c κs = search needs
 start-speculation-requires : tie.Need-start-speculation-requires
 start-speculation-requires c κs = search needs
 
-report-own-requires : tie.Need-report-own-requires
-report-own-requires c κs = search needs
+own-reported-requires : tie.Need-own-reported-requires
+own-reported-requires c κs = search needs
 
-without-values-requires : tie.Need-without-values-requires
-without-values-requires c κs = search needs
+speculation-reported-requires : tie.Need-speculation-reported-requires
+speculation-reported-requires c κs = search needs
 
-report-speculation-requires : tie.Need-report-speculation-requires
-report-speculation-requires c κs = search needs
-
-without-values-requires-2 : tie.Need-without-values-requires-2
-without-values-requires-2 c κs = search needs
-
-commit-requires : tie.Need-commit-requires
-commit-requires c κs = search needs
-
-without-values-requires-3 : tie.Need-without-values-requires-3
-without-values-requires-3 c κs = search needs
+speculation-committed-requires : tie.Need-speculation-committed-requires
+speculation-committed-requires c κs = search needs
 
 no-such-step-requires : tie.Need-no-such-step-requires
 no-such-step-requires c κs = search needs
@@ -45,17 +36,17 @@ returns-2 c = rw (c .before .match .keys2, c .start-speculation .ensures)
 -- 2
 returns-3 : tie.Need-returns-3
 unfolding stepped
-returns-3 c = rw (c .before .before .match .keys3, c .without-values .ensures, c .before .report-own .ensures)
+returns-3 c = rw (c .before .match .keys3, c .own-reported .ensures)
 
 -- 3
 returns-4 : tie.Need-returns-4
 unfolding stepped
-returns-4 c = rw (c .before .before .match .keys4, c .without-values2 .ensures, c .before .report-speculation .ensures)
+returns-4 c = rw (c .before .match .keys4, c .speculation-reported .ensures)
 
 -- 4
 returns-5 : tie.Need-returns-5
 unfolding stepped
-returns-5 c = rw (c .before .before .match .keys5, c .without-values3 .ensures, c .before .commit .ensures)
+returns-5 c = rw (c .before .match .keys5, c .speculation-committed .ensures)
 
 -- no such step
 returns-6 : tie.Need-returns-6
@@ -77,12 +68,9 @@ step-spec =
     (tie.spec
     start-own-requires
     start-speculation-requires
-    report-own-requires
-    without-values-requires
-    report-speculation-requires
-    without-values-requires-2
-    commit-requires
-    without-values-requires-3
+    own-reported-requires
+    speculation-reported-requires
+    speculation-committed-requires
     no-such-step-requires
     returns
     returns-2
