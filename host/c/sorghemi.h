@@ -1,8 +1,8 @@
 /* The batch engine for hosts in C: a batch record that the host owns, and functions over it.
  *
  * Every function of the library takes the record by value and hands the changed one back with its answer, but for
- * sorghemi_step, to which the host lends its record. An answer's `refusal` is 0, or the number of a refusal (see
- * docs/PLANS.md for their meanings), and a refused call changes nothing. Functions here that begin with
+ * sorghemi_step, to which the host lends its record. An answer's `refusal` is 0, or the number of a refusal
+ * (host/README.md has their meanings), and a refused call changes nothing. Functions here that begin with
  * sorghemi_batch_ do the same on a record behind a pointer.
  */
 #ifndef SORGHEMI_H

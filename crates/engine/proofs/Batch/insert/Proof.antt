@@ -11,7 +11,6 @@ insert-refusal-requires : tie.Need-insert-refusal-requires
 insert-refusal-requires c κs = search needs
 
 -- refused
--- refused
 returns : tie.Need-returns
 unfolding inserted
 returns c = rw (← c .before .insert-refusal .ensures, ne-eqb _ _ (c .if1 .taken))
@@ -21,7 +20,6 @@ with-inserted-requires c κs =
     let a = c .before .before .args in
     insert-place (a .self) (a .job) (sym (c .before .insert-refusal .ensures) ∙ c .if1 .left)
 
--- accepted
 -- accepted
 returns-2 : tie.Need-returns-2
 unfolding inserted

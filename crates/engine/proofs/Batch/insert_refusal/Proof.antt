@@ -12,11 +12,9 @@ is-in-form-requires : tie.Need-is-in-form-requires
 is-in-form-requires c κs = search needs
 
 -- sealed
--- sealed
 returns : tie.Need-returns
 returns c = rw (← c .before .before .before .is-in-form .ensures, c .before .before .if1 .taken) (first (hit (ap not (ne-eqb _ _ (c .if2 .taken)))))
 
--- 128 jobs
 -- 128 jobs
 returns-2 : tie.Need-returns-2
 returns-2 c =
@@ -28,7 +26,6 @@ job-refusal-requires : tie.Need-job-refusal-requires
 job-refusal-requires c κs = search needs
 
 -- the job alone decides
--- the job alone decides
 returns-3 : tie.Need-returns-3
 unfolding jobRefusal
 returns-3 c =
@@ -37,7 +34,6 @@ returns-3 c =
     (first
     (skip (ap not (eq-eqb _ _ (c .before .before .before .if2 .left))) (skip (lt-leb _ _ (c .before .if3 .left)) (first-of _))))
 
--- out of form
 -- out of form
 returns-4 : tie.Need-returns-4
 returns-4 c = rw (← c .before .is-in-form .ensures, c .if1 .left)

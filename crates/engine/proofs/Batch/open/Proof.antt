@@ -9,7 +9,6 @@ fresh-requires : tie.Need-fresh-requires
 fresh-requires c κs = search needs
 
 -- no heights
--- no heights
 returns : tie.Need-returns
 unfolding opened
 returns c = rw (c .fresh .ensures, eq-eqb _ _ (c .before .if1 .taken))
@@ -17,7 +16,6 @@ returns c = rw (c .fresh .ensures, eq-eqb _ _ (c .before .if1 .taken))
 fresh-requires-2 : tie.Need-fresh-requires-2
 fresh-requires-2 c κs = search needs
 
--- too many
 -- too many
 returns-2 : tie.Need-returns-2
 unfolding opened
@@ -32,7 +30,6 @@ cast-fresh c = search needs
 fresh-requires-3 : tie.Need-fresh-requires-3
 fresh-requires-3 c κs = search needs
 
--- 1 to 64
 -- 1 to 64
 returns-3 : tie.Need-returns-3
 unfolding opened

@@ -9,12 +9,10 @@ seal-refusal-requires : tie.Need-seal-refusal-requires
 seal-refusal-requires c κs = search needs
 
 -- refused
--- refused
 returns : tie.Need-returns
 unfolding sealedWith
 returns c = rw (← c .before .seal-refusal .ensures, ne-eqb _ _ (c .if1 .taken))
 
--- accepted
 -- accepted
 returns-2 : tie.Need-returns-2
 unfolding sealedWith withSealed

@@ -11,11 +11,9 @@ is-in-form-requires : tie.Need-is-in-form-requires
 is-in-form-requires c κs = search needs
 
 -- sealed
--- sealed
 returns : tie.Need-returns
 returns c = rw (← c .before .before .before .is-in-form .ensures, c .before .before .if1 .taken) (first (hit (ap not (ne-eqb _ _ (c .if2 .taken)))))
 
--- no such switch
 -- no such switch
 returns-2 : tie.Need-returns-2
 returns-2 c =
@@ -24,14 +22,12 @@ returns-2 c =
     (first (skip (ap not (eq-eqb _ _ (c .before .if2 .left))) (hit (lt-ltb _ _ (c .if3 .taken)))))
 
 -- allowed
--- allowed
 returns-3 : tie.Need-returns-3
 returns-3 c =
     let k = c .before .before .before in
     rw (← k .before .is-in-form .ensures, k .if1 .taken)
     (first (skip (ap not (eq-eqb _ _ (c .before .if2 .left))) (skip (le-ltb _ _ (c .if3 .left)) none)))
 
--- out of form
 -- out of form
 returns-4 : tie.Need-returns-4
 returns-4 c = rw (← c .before .is-in-form .ensures, c .if1 .left)
