@@ -1,27 +1,29 @@
-//! The engine of document 01: cells, jobs, batch, steps 0 to 4, the chooser,
-//! asking and copying out.
+//! The engine: cells, jobs, batch, steps 0 to 4, the chooser, asking and copying
+//! out. R numbers are the rules of docs/RULES.md; refusal n is R(100 + n).
 //!
-//! Every operation gives a result or a refusal number. "A refusal changes
-//! nothing. If several apply, the lowest number is given": so the checks of an
-//! operation stand in the order of their numbers, and all of them stand before
-//! the first change. Refusal 32 is about a batch record in a caller's hands; here
-//! the fields are closed to callers, so no record is ever out of form.
+//! R81, R100: a refused call changes nothing, and the lowest number that applies
+//! is given. So the checks of an operation stand in the order of their numbers,
+//! and all of them before the first change. Refusal 32 is about a batch record in
+//! a caller's hands; here the fields are closed to callers, so no record is ever
+//! out of form.
 
 use std::collections::BTreeSet;
 
 use crate::kinds;
 
-/// "each a cell and a mode: 0 read, 1 write, 2 maybe-write"
+/// R3: the modes of an access.
 pub const READ: u32 = 0;
 pub const WRITE: u32 = 1;
 pub const MAYBE: u32 = 2;
 
+/// R50: the five steps.
 pub const START_OWN: u32 = 0;
 pub const START_GUESS: u32 = 1;
 pub const REPORT_OWN: u32 = 2;
 pub const REPORT_GUESS: u32 = 3;
 pub const SETTLE: u32 = 4;
 
+/// R1, R2: the limits.
 pub const MOST_CELLS: usize = 64;
 pub const MOST_JOBS: usize = 128;
 
@@ -38,8 +40,7 @@ pub struct Job {
     pub accesses: Vec<Access>,
 }
 
-/// "A report has such values and a mark: 1 if the maybe-write cells were
-/// written, else 0."
+/// R32: four values, and mark 1 if the maybe-write cells were written, else 0.
 #[derive(Clone, Copy, Debug, PartialEq, Eq)]
 pub struct Report {
     pub values: [i32; 4],
@@ -55,7 +56,8 @@ pub enum Own {
     Reported,
 }
 
-/// How far a job's guess has come.
+/// How far a job's guess has come (R40). R94 has a kept guess as stored; here it
+/// has a name of its own.
 #[derive(Clone, Copy, Debug, PartialEq, Eq)]
 pub enum GuessState {
     /// The run is out.
@@ -70,14 +72,14 @@ pub enum GuessState {
 #[derive(Clone, Debug, PartialEq, Eq)]
 pub struct Guess {
     pub handed: [i32; 4],
-    /// The maybe-writers this guess looked past.
+    /// The maybe-writers this guess looked past (R41), fixed by R42.
     pub looked_past: BTreeSet<usize>,
     /// The writers from whose guesses this guess took a value.
     pub taken_from: BTreeSet<usize>,
     pub state: GuessState,
 }
 
-/// "How: 0 unsettled, 1 own run, 2 guess."
+/// R72: how a job is settled, with its mark (R57).
 #[derive(Clone, Copy, Debug, PartialEq, Eq)]
 pub enum Settled {
     No,
@@ -89,7 +91,7 @@ pub enum Settled {
 struct Entry {
     job: Job,
     own: Own,
-    /// None until a guess is started; "once per job".
+    /// None until a guess is started. R40: at most one, ever.
     guess: Option<Guess>,
     settled: Settled,
 }
@@ -102,12 +104,12 @@ pub struct Batch {
     sealed: Option<bool>,
 }
 
-/// What the chooser names.
+/// R62: what the chooser names.
 #[derive(Clone, Copy, Debug, PartialEq, Eq)]
 pub struct Choice {
     pub step: u32,
     pub job: u32,
-    /// The length of the job's chain, "the job itself counted".
+    /// The length of the job's chain (R22).
     pub chain: u32,
 }
 
@@ -126,14 +128,13 @@ impl Job {
         self.accesses.iter().any(|access| access.mode == MAYBE)
     }
 
-    /// Whether a report with this mark writes the cell of this access.
+    /// R33: whether a report with this mark writes the cell of this access.
     fn writes(access: &Access, mark: u32) -> bool {
         access.mode == WRITE || (access.mode == MAYBE && mark == 1)
     }
 }
 
-/// "Two jobs conflict if they share a cell and at least one access to it is not
-/// a read."
+/// R20: a cell in common, and not both only read it.
 pub fn conflict(one: &Job, other: &Job) -> bool {
     one.accesses.iter().any(|access| match other.access_to(access.cell) {
         Some((_, mode)) => access.mode != READ || mode != READ,
@@ -145,42 +146,44 @@ pub fn conflict(one: &Job, other: &Job) -> bool {
 // Opening, inserting, sealing
 
 impl Batch {
+    /// R5: the heights as given, not sealed, no jobs.
     pub fn open(heights: &[i32]) -> Result<Batch, u32> {
-        // "1: cell count not 1 to 64."
+        // R101: not 1 to 64 heights.
         if heights.is_empty() || heights.len() > MOST_CELLS {
             return Err(1);
         }
         Ok(Batch { cells: heights.to_vec(), jobs: Vec::new(), sealed: None })
     }
 
+    /// R6: adds the job as the last.
     pub fn insert(&mut self, kind: u32, p: i32, accesses: &[Access]) -> Result<(), u32> {
-        // "2: insert or seal after sealing."
+        // R102: sealed already.
         if self.sealed.is_some() {
             return Err(2);
         }
-        // "3: 128 jobs are held."
+        // R103: 128 jobs are held.
         if self.jobs.len() >= MOST_JOBS {
             return Err(3);
         }
-        // "4: access count not 1 to 4."
+        // R104: not 1 to 4 accesses.
         if accesses.is_empty() || accesses.len() > 4 {
             return Err(4);
         }
-        // "5: cell number not below the cell count."
+        // R105: a cell that is not there.
         if accesses.iter().any(|access| access.cell as usize >= self.cells.len()) {
             return Err(5);
         }
-        // "6: mode not 0 to 2."
+        // R106: another mode than 0, 1 and 2.
         if accesses.iter().any(|access| access.mode > MAYBE) {
             return Err(6);
         }
-        // "7: a cell twice in a job."
+        // R107: a cell twice.
         for (place, access) in accesses.iter().enumerate() {
             if accesses[..place].iter().any(|before| before.cell == access.cell) {
                 return Err(7);
             }
         }
-        // "8: kind not 0 to 6, or modes not those of the kind"
+        // R108: no kind, or number and modes of the accesses are not the kind's.
         if kind > 6 {
             return Err(8);
         }
@@ -199,13 +202,13 @@ impl Batch {
         Ok(())
     }
 
-    /// "Sealing fixes the list and says guessing off (0) or on (1)."
+    /// R7: ends the inserting, with guessing off (0) or on (1).
     pub fn seal(&mut self, guess: u32) -> Result<(), u32> {
-        // "2: insert or seal after sealing."
+        // R102: sealed already.
         if self.sealed.is_some() {
             return Err(2);
         }
-        // "9: guess switch not 0 or 1."
+        // R109: the switch is neither 0 nor 1.
         if guess > 1 {
             return Err(9);
         }
@@ -222,6 +225,7 @@ impl Batch {
         self.jobs[job].settled != Settled::No
     }
 
+    /// R57: the mark of the counted report, 0 while there is none.
     fn mark(&self, job: usize) -> u32 {
         match self.jobs[job].settled {
             Settled::No => 0,
@@ -229,19 +233,19 @@ impl Batch {
         }
     }
 
-    /// "A job is ready when each earlier conflicting job is settled."
+    /// R21: every earlier job in conflict with it is settled.
     fn is_ready(&self, job: usize) -> bool {
         (0..job).all(|earlier| {
             self.is_settled(earlier) || !conflict(&self.jobs[earlier].job, &self.jobs[job].job)
         })
     }
 
-    /// "A guess has fallen if a job it looked past is settled with mark 1, or a
-    /// guess it took from has fallen or been thrown away."
+    /// R43: of every job whether its guess has fallen: one that it looked past is
+    /// settled with mark 1, or a guess that it took from has fallen or is thrown
+    /// away. (Of a guess thrown away nobody asks.)
     ///
     /// A guess takes only from earlier jobs, so going up through the jobs each
-    /// answer is known before it is needed. A job without a guess has none that
-    /// has fallen.
+    /// answer is known before it is needed.
     fn fallen(&self) -> Vec<bool> {
         let mut fallen = Vec::new();
         for entry in &self.jobs {
@@ -272,8 +276,7 @@ impl Batch {
         }
     }
 
-    /// "A ready job's guess that has not fallen stands." It stands while it is
-    /// out as well as when its report is stored.
+    /// R44: the job is ready and its guess, out or stored, has not fallen.
     fn guess_stands(&self, job: usize) -> bool {
         self.jobs[job].guess.is_some()
             && !self.is_thrown_away(job)
@@ -299,8 +302,8 @@ impl Batch {
         matches!(self.jobs[job].own, Own::Out(_))
     }
 
-    /// The present values of a job's cells, in the order of its accesses;
-    /// "unused places are 0".
+    /// R31: the heights of the job's cells in the order of its accesses, and by
+    /// R30 0 in places not in use.
     fn present_values(&self, job: usize) -> [i32; 4] {
         let mut values = [0; 4];
         for (place, access) in self.jobs[job].job.accesses.iter().enumerate() {
@@ -309,13 +312,12 @@ impl Batch {
         values
     }
 
-    /// The guess that would be entered for this job now, or none if "a writer
-    /// met has no stored report or its guess has fallen".
+    /// The guess that would start for this job now, or none where a job that it
+    /// would take from has no stored guess or a fallen one (R115).
     ///
-    /// "For each cell of the job, go back through earlier unsettled jobs. A
-    /// maybe-writer of that cell is looked past; at a writer (mode 1) the value
-    /// its guess reported is taken; if none is met, the present cell value is
-    /// handed out."
+    /// R41: for each access, back through the unsettled jobs. Maybe-writers of
+    /// the cell are looked past; the first writer ends it, and what its guess has
+    /// stored is taken. Without a writer the present value stays.
     fn new_guess(&self, job: usize) -> Option<Guess> {
         let fallen = self.fallen();
         let mut handed = self.present_values(job);
@@ -339,7 +341,7 @@ impl Batch {
                         taken_from.insert(earlier);
                         break;
                     }
-                    // A reader of the cell, or a job without it.
+                    // R41: a reader of the cell, or a job without it, leaves no trace.
                     _ => {}
                 }
             }
@@ -347,8 +349,8 @@ impl Batch {
         Some(Guess { handed, looked_past, taken_from, state: GuessState::Out })
     }
 
-    /// "Values reported for cells not written are ignored and the handed ones
-    /// stored." Unused places are 0.
+    /// R34: the reported value where the cell is written, else the handed one;
+    /// R30: 0 in places not in use.
     fn stored_form(&self, job: usize, handed: [i32; 4], report: Report) -> Report {
         let mut values = [0; 4];
         for (place, access) in self.jobs[job].job.accesses.iter().enumerate() {
@@ -361,7 +363,7 @@ impl Batch {
         Report { values, mark: report.mark }
     }
 
-    /// The cells that the report writes get its values; all other cells stay.
+    /// R35: the cells that the report writes get its values; the others stay.
     fn write_cells(&mut self, job: usize, report: Report) {
         for (place, access) in self.jobs[job].job.accesses.iter().enumerate() {
             if Job::writes(access, report.mark) {
@@ -375,8 +377,7 @@ impl Batch {
 // What refuses a step
 
 impl Batch {
-    /// "10: step or choice before sealing."
-    /// "11: job number not below the job count."
+    /// R110: not sealed. R111: no such job.
     fn check_any_step(&self, job: u32) -> Result<(), u32> {
         if self.sealed.is_none() {
             return Err(10);
@@ -387,7 +388,7 @@ impl Batch {
         Ok(())
     }
 
-    /// "16: mark not 0 or 1, or 1 from a job without mode 2."
+    /// R116: neither 0 nor 1, or 1 of a job that maybe-writes nothing.
     fn check_mark(&self, job: usize, mark: u32) -> Result<(), u32> {
         if mark > 1 || (mark == 1 && !self.jobs[job].job.has_maybe_write()) {
             return Err(16);
@@ -398,15 +399,15 @@ impl Batch {
     fn check_start_own(&self, number: u32) -> Result<(), u32> {
         self.check_any_step(number)?;
         let job = number as usize;
-        // "13: start own when settled or its own run is out"
+        // R113: settled, or its own run is out.
         if self.is_settled(job) || self.own_is_out(job) {
             return Err(13);
         }
-        // "15: start own or settle of a job not ready"
+        // R115: not ready.
         if !self.is_ready(job) {
             return Err(15);
         }
-        // "17: start own while its guess stands."
+        // R117: its guess stands.
         if self.guess_stands(job) {
             return Err(17);
         }
@@ -416,28 +417,26 @@ impl Batch {
     fn check_start_guess(&self, number: u32) -> Result<Guess, u32> {
         self.check_any_step(number)?;
         let job = number as usize;
-        // "12: start guess with guessing off."
+        // R112: guessing is off.
         if self.sealed == Some(false) {
             return Err(12);
         }
-        // "13: start guess when settled, its own run is out, or a guess was
-        // ever started"
+        // R113: settled, its own run is out, or a guess was ever started.
         if self.is_settled(job) || self.own_is_out(job) || self.jobs[job].guess.is_some() {
             return Err(13);
         }
-        // "14: start guess of a ready job."
+        // R114: ready.
         if self.is_ready(job) {
             return Err(14);
         }
-        // "15: start guess when a writer met has no stored report or its guess
-        // has fallen."
+        // R115: a job to take from has no stored guess, or a fallen one.
         self.new_guess(job).ok_or(15)
     }
 
     fn check_report_own(&self, number: u32, mark: u32) -> Result<(), u32> {
         self.check_any_step(number)?;
         let job = number as usize;
-        // "13: report own or guess when that run is not out"
+        // R113: the own run is not out.
         if !self.own_is_out(job) {
             return Err(13);
         }
@@ -447,8 +446,7 @@ impl Batch {
     fn check_report_guess(&self, number: u32, mark: u32) -> Result<(), u32> {
         self.check_any_step(number)?;
         let job = number as usize;
-        // "13: report own or guess when that run is not out (a thrown-away guess
-        // is not)"
+        // R113: the guess is not out; one thrown away is not.
         if !self.guess_is_out(job) {
             return Err(13);
         }
@@ -458,16 +456,16 @@ impl Batch {
     fn check_settle(&self, number: u32) -> Result<Report, u32> {
         self.check_any_step(number)?;
         let job = number as usize;
-        // "13: settle when settled or no guess is in stored state."
+        // R113: settled, or no guess is stored.
         if self.is_settled(job) {
             return Err(13);
         }
         let report = self.stored_report(job).ok_or(13u32)?;
-        // "15: start own or settle of a job not ready"
+        // R115: not ready.
         if !self.is_ready(job) {
             return Err(15);
         }
-        // "18: settle a fallen guess."
+        // R118: the guess has fallen.
         if self.has_fallen(job) {
             return Err(18);
         }
@@ -494,13 +492,12 @@ impl Batch {
 // The steps
 
 impl Batch {
-    /// "0 start own: hands out present cell values."
+    /// R51: hands out the present values.
     pub fn start_own(&mut self, number: u32) -> Result<[i32; 4], u32> {
         self.check_start_own(number)?;
         let job = number as usize;
         let handed = self.present_values(job);
-        // "Starting a job's own run throws its fallen guess away." The guess of
-        // a ready job that does not stand has fallen.
+        // R51: its guess is thrown away. It has fallen, as it does not stand.
         if let Some(guess) = &mut self.jobs[job].guess {
             guess.state = GuessState::ThrownAway;
         }
@@ -508,7 +505,7 @@ impl Batch {
         Ok(handed)
     }
 
-    /// "1 start guess: once per job."
+    /// R52: hands out what R41 finds.
     pub fn start_guess(&mut self, number: u32) -> Result<[i32; 4], u32> {
         let guess = self.check_start_guess(number)?;
         let handed = guess.handed;
@@ -516,7 +513,7 @@ impl Batch {
         Ok(handed)
     }
 
-    /// "2 report own: writes its cells and settles the job."
+    /// R53: writes the report into the cells, and the job is settled.
     pub fn report_own(&mut self, number: u32, report: Report) -> Result<(), u32> {
         self.check_report_own(number, report.mark)?;
         let job = number as usize;
@@ -526,7 +523,7 @@ impl Batch {
         Ok(())
     }
 
-    /// "3 report guess: stores the report; no cell changes."
+    /// R54: stores the report, of a fallen guess too; no cell changes.
     pub fn report_guess(&mut self, number: u32, report: Report) -> Result<(), u32> {
         self.check_report_guess(number, report.mark)?;
         let job = number as usize;
@@ -538,8 +535,8 @@ impl Batch {
         Ok(())
     }
 
-    /// "4 settle: writes the stored report into the cells; the job is settled by
-    /// its guess with that mark."
+    /// R55: writes the stored report into the cells; the job is settled by its
+    /// guess.
     pub fn settle(&mut self, number: u32) -> Result<(), u32> {
         let report = self.check_settle(number)?;
         let job = number as usize;
@@ -556,8 +553,7 @@ impl Batch {
 // The chooser
 
 impl Batch {
-    /// The length of "the longest chain of later jobs, each conflicting with the
-    /// one before it", "the job itself counted", for every job.
+    /// R22: for every job the length of the longest chain from it on.
     fn chains(&self) -> Vec<u32> {
         let count = self.jobs.len();
         let mut chains = vec![1; count];
@@ -571,11 +567,10 @@ impl Batch {
         chains
     }
 
-    /// "The chooser names one allowed step among 4, 0 and 1, in that order of
-    /// preference. Within a step number it takes the job with the longest chain
-    /// ... Ties go to the lowest job number."
+    /// R60: a step 4 if one is allowed, else a 0, else a 1. R61: of the job with
+    /// the longest chain, the lowest number first.
     pub fn choose(&self) -> Result<Choice, u32> {
-        // "10: step or choice before sealing."
+        // R110: not sealed.
         if self.sealed.is_none() {
             return Err(10);
         }
@@ -595,13 +590,13 @@ impl Batch {
                 return Ok(choice);
             }
         }
-        // "19: the chooser finds no allowed step 4, 0 or 1."
+        // R119: none is allowed.
         Err(19)
     }
 }
 
 // ---------------------------------------------------------------------------
-// The reader of results: "Asking is allowed before sealing."
+// The reader of results. R70: before sealing too.
 
 impl Batch {
     pub fn job_count(&self) -> u32 {
@@ -612,22 +607,23 @@ impl Batch {
         self.cells.len() as u32
     }
 
-    /// "A sealed batch of no jobs is finished."
+    /// R8: sealed, and every job settled; also with no jobs at all.
     pub fn finished(&self) -> bool {
         self.sealed.is_some() && (0..self.jobs.len()).all(|job| self.is_settled(job))
     }
 
-    /// "5 and 11: as above, for asking a cell or a job."
+    /// R71; R105 where there is no such cell.
     pub fn ask_cell(&self, cell: u32) -> Result<i32, u32> {
         self.cells.get(cell as usize).copied().ok_or(5)
     }
 
+    /// R72, as far as plans need it; R111 where there is no such job.
     pub fn ask_job(&self, job: u32) -> Result<Settled, u32> {
         self.jobs.get(job as usize).map(|entry| entry.settled).ok_or(11)
     }
 
-    /// "20: cells are copied out from a given place of a longer buffer, and
-    /// fewer places remain than cells. All other places keep their values."
+    /// R74: the cells from that place of the buffer on; all other places keep what
+    /// they hold. R120: too few places are left.
     pub fn copy_cells(&self, buffer: &mut [i32], place: usize) -> Result<(), u32> {
         let remain = buffer.len().saturating_sub(place);
         if remain < self.cells.len() {

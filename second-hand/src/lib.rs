@@ -1,7 +1,6 @@
-//! A second `gaugebatch`, written from document 01 alone by a hand that had not
-//! read the first. It is meant to be compared with the first one, so it is plain
-//! rather than fast, and the sentences of document 01 (in quotation marks) stand
-//! where they are carried out.
+//! A second `gaugebatch`, by a hand that had not read the first. It is meant to be
+//! compared with the first one, so it is plain rather than fast, and the numbers of
+//! the rules (docs/RULES.md) stand where they are carried out.
 
 pub mod engine;
 pub mod frame;

@@ -1,4 +1,4 @@
-//! `gaugebatch`: "It reads a plan from standard input".
+//! `gaugebatch`: a plan from standard input, its answer to standard output (R140).
 
 use std::io::{Read, Write};
 

@@ -1,26 +1,24 @@
-//! The program `gaugebatch`: the reader of plans, the running of their steps,
-//! and the output.
-//!
-//! "It reads a plan from standard input: a line of names, then lines of values
-//! in that order, for each of four parts."
+//! The program `gaugebatch` (R140 to R152): the reader of plans, the running of
+//! their steps, and the output.
 
 use crate::engine::{
     Access, Batch, Report, Settled, READ, REPORT_GUESS, REPORT_OWN, SETTLE, START_GUESS, START_OWN,
 };
 use crate::kinds;
 
-/// "22: over 65,536 bytes (line 0)."
+/// R122: more bytes than these give 22 on line 0.
 pub const MOST_BYTES: usize = 65_536;
 
+/// R141: the four parts begin with these lines.
 const CELL_NAMES: &[u8] = b"cell value";
 const JOB_NAMES: &[u8] = b"kind p a b c";
 const GUESS_NAMES: &[u8] = b"guess";
 const STEP_NAMES: &[u8] = b"step job";
 
-/// "21: a line not in form."
+/// R121
 const NOT_IN_FORM: u32 = 21;
 
-/// A faulty line, "counted from 1", and the number that it gives.
+/// R150: a faulty line, counted from 1, and the number that it gives.
 #[derive(Clone, Copy, Debug, PartialEq, Eq)]
 pub struct Fault {
     pub number: u32,
@@ -59,9 +57,9 @@ struct Lines<'a> {
 impl<'a> Lines<'a> {
     /// The next line, without its line feed.
     ///
-    /// "lines end in line feed": bytes after the last line feed are no line in
-    /// form, and give 21 where that line would stand.
-    /// "Input that ends too soon is at fault on the line after its last."
+    /// R142: a last line without its line feed is not in form. R149: input that
+    /// ends too soon is at fault on the line after its last whole one. Both give
+    /// 21 on the line that would stand here.
     fn next(&mut self) -> Result<&'a [u8], Fault> {
         self.number += 1;
         match self.rest.iter().position(|&byte| byte == b'\n') {
@@ -96,7 +94,7 @@ impl<'a> Lines<'a> {
         answer.or_else(|number| self.fault(number))
     }
 
-    /// The next line has to be this line of names.
+    /// R141: the next line has to be this line of names, byte for byte.
     fn expect_names(&mut self, names: &[u8]) -> Result<(), Fault> {
         if self.next()? != names {
             return self.fault(NOT_IN_FORM);
@@ -106,16 +104,16 @@ impl<'a> Lines<'a> {
 }
 
 // ---------------------------------------------------------------------------
-// Fields. None stands for "not in form".
+// Fields. None stands for: not in form.
 
-/// "Fields have one space between". Two spaces, or one at an end of the line,
-/// make an empty field, and no field may be empty.
+/// R142: one space between. Two spaces, or one at an end of the line, make an
+/// empty field, and no field may be empty.
 fn fields(line: &[u8]) -> Vec<&[u8]> {
     line.split(|&byte| byte == b' ').collect()
 }
 
-/// A height or p: "values are in base ten without leading zeros or minus zero";
-/// "a number outside 32 signed bits" is not in form.
+/// R143, a height or p: base ten, 32 signed bits, without plus sign, leading zeros
+/// and minus zero.
 fn signed(field: &[u8]) -> Option<i32> {
     let (minus, digits) = match field.strip_prefix(b"-") {
         Some(digits) => (true, digits),
@@ -143,13 +141,13 @@ fn signed(field: &[u8]) -> Option<i32> {
     i32::try_from(if minus { -size } else { size }).ok()
 }
 
-/// Any other number: "a minus sign other than in a height or p" is not in form.
+/// R143, any other number: without a minus sign.
 fn unsigned(field: &[u8]) -> Option<u32> {
     u32::try_from(signed(field)?).ok()
 }
 
-/// "absent trailing cells are `-`": the cells of a job line, the absent ones
-/// left out. A cell after an absent one is not in form.
+/// R145: the cells of a job line. Those that the job does not have are `-`, and
+/// after one `-` only `-` may follow.
 fn cells_of_job(given: &[&[u8]]) -> Option<Vec<u32>> {
     let mut cells = Vec::new();
     let mut absent = false;
@@ -166,9 +164,9 @@ fn cells_of_job(given: &[&[u8]]) -> Option<Vec<u32>> {
 }
 
 // ---------------------------------------------------------------------------
-// Value lines. None stands for "not in form".
+// Value lines. None stands for: not in form.
 
-/// `cell value`. "cell lines not numbered 0, 1, 2 in turn" are not in form.
+/// `cell value`. R144: numbered in turn.
 fn cell_line(line: &[u8], due: usize) -> Option<i32> {
     let fields = fields(line);
     if fields.len() != 2 {
@@ -182,7 +180,7 @@ fn cell_line(line: &[u8], due: usize) -> Option<i32> {
     Some(height)
 }
 
-/// `kind p a b c`. "Kind 0 ... gives 21."
+/// `kind p a b c`. R145: kind 0 is not in form.
 fn job_line(line: &[u8]) -> Option<(u32, i32, Vec<u32>)> {
     let fields = fields(line);
     if fields.len() != 5 {
@@ -206,7 +204,7 @@ fn guess_line(line: &[u8]) -> Option<u32> {
     unsigned(fields[0])
 }
 
-/// `step job`. "a step above 4 gives 21."
+/// `step job`. R146: a step above 4 is not in form; any job number is.
 fn step_line(line: &[u8]) -> Option<Step> {
     let fields = fields(line);
     if fields.len() != 2 {
@@ -220,10 +218,9 @@ fn step_line(line: &[u8]) -> Option<Step> {
     Some(Step { step, job })
 }
 
-/// "Modes follow the kind; no cells gives 4, another wrong number of them 8."
-/// Cells for which the kind has no mode are taken as read: the number of
-/// accesses is then not that of the kind, or the kind is none, and either gives
-/// 8 unless a lower number applies.
+/// R145: the modes are those of the kind. Cells for which it has none are taken
+/// as read: the number of accesses is then not that of the kind, or the kind is
+/// none, and either gives 8 unless a lower number applies (R147).
 fn accesses_of(kind: u32, cells: &[u32]) -> Vec<Access> {
     let modes = kinds::modes(kind).unwrap_or(&[]);
     let mut accesses = Vec::new();
@@ -237,11 +234,11 @@ fn accesses_of(kind: u32, cells: &[u32]) -> Vec<Access> {
 // ---------------------------------------------------------------------------
 // The reader
 
-/// "The first faulty line decides, before any step": the lines are read in turn
-/// and reading ends at the first fault. "On its line 21 goes before other
-/// numbers": each line is read in form as a whole before the engine is asked.
+/// R150: the first faulty line decides, before any step is tried; so the lines are
+/// read in turn, and reading ends at the first fault. R148: on one line 21 goes
+/// before; so each line is read as a whole before the engine is asked (R147).
 pub fn read(input: &[u8]) -> Result<Plan, Fault> {
-    // Line 0 comes before every other line.
+    // R140: whatever it says.
     if input.len() > MOST_BYTES {
         return Err(Fault { number: 22, line: 0 });
     }
@@ -256,7 +253,7 @@ pub fn read(input: &[u8]) -> Result<Plan, Fault> {
         line = lines.next()?;
     }
 
-    // "(refusal 1 on the names line of the jobs)"
+    // R147: opened on the names line of the jobs.
     let mut batch = lines.accepted(Batch::open(&heights))?;
     let mut line = lines.next()?;
     while line != GUESS_NAMES {
@@ -281,9 +278,8 @@ pub fn read(input: &[u8]) -> Result<Plan, Fault> {
 // ---------------------------------------------------------------------------
 // The steps
 
-/// "Reports follow the kind": what the job's kind makes of the values handed to
-/// the run. Without such a run the report does not matter, because the step is
-/// refused with 11 or 13.
+/// R151: what the job's kind gives for the values handed to the run. Without such
+/// a run the report does not matter, because the step is refused with 11 or 13.
 fn report_of(batch: &Batch, job: u32, handed: Option<[i32; 4]>) -> Report {
     let nothing = Report { values: [0; 4], mark: 0 };
     match (batch.job(job), handed) {
@@ -294,7 +290,7 @@ fn report_of(batch: &Batch, job: u32, handed: Option<[i32; 4]>) -> Report {
     }
 }
 
-/// "Answer 0 is accepted, else a refusal."
+/// Tries the step: 0 if it is accepted, else the refusal.
 pub fn try_step(batch: &mut Batch, step: Step) -> u32 {
     let job = step.job;
     let answer = match step.step {
@@ -317,7 +313,7 @@ pub fn try_step(batch: &mut Batch, step: Step) -> u32 {
     }
 }
 
-/// "Every step is tried, also after a refusal."
+/// R151: every step is tried, also after a refusal.
 pub fn run(plan: Plan) -> Outcome {
     let mut batch = plan.batch;
     let mut answers = Vec::new();
@@ -331,13 +327,12 @@ pub fn run(plan: Plan) -> Outcome {
 // ---------------------------------------------------------------------------
 // The output
 
-/// "the only output is then `fault line` and the number with its line"
+/// R150: two lines and nothing else.
 pub fn write_fault(fault: Fault) -> Vec<u8> {
     format!("fault line\n{} {}\n", fault.number, fault.line).into_bytes()
 }
 
-/// "Step lines follow the plan's order and begin with the step number; job and
-/// cell lines go by number."
+/// R152: steps in the plan's order, jobs and cells by number.
 pub fn write_outcome(outcome: &Outcome) -> Vec<u8> {
     let mut out = String::from("step answer\n");
     for (step, answer) in &outcome.answers {
@@ -345,7 +340,7 @@ pub fn write_outcome(outcome: &Outcome) -> Vec<u8> {
     }
     out += "job how mark\n";
     for job in 0..outcome.batch.job_count() {
-        // "How: 0 unsettled, 1 own run, 2 guess. An unsettled job's mark is 0."
+        // R72: 0 not settled, 1 by its own run, 2 by its guess; mark 0 with the first.
         let (how, mark) = match outcome.batch.ask_job(job) {
             Ok(Settled::ByOwnRun { mark }) => (1, mark),
             Ok(Settled::ByGuess { mark }) => (2, mark),

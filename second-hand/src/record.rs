@@ -1,16 +1,16 @@
-//! The engine of document 01 on a batch record as it stands in memory.
+//! The engine on a batch record as it stands in memory (R90 to R95). R numbers are
+//! the rules of docs/RULES.md; refusal n is R(100 + n).
 //!
 //! `engine` keeps its batch closed, so there a state that no list of calls leads
 //! to cannot come up. Here it can: the record lies with the host, field by field
 //! as the C header `sorghemi.h` has it, and anybody may have written into it. So
 //! nothing is taken for granted but what the fields say. A record out of form is
-//! refused with 32; on any other the sentences of document 01 (in quotation
-//! marks) are applied to the fields one by one, whether or not some list of calls
-//! leads there. Sentences of the header are marked "Header:".
+//! refused with 32; on any other the rules are applied to the fields one by one,
+//! whether or not some list of calls leads there (R93).
 //!
-//! "A refusal changes nothing. If several apply, the lowest number is given, but
-//! 32 goes before all": in each operation the checks stand in that order, and all
-//! of them before the first change.
+//! R81, R100: a refused call changes nothing, and the lowest number that applies
+//! is given, but 32 before all. So in each operation the checks stand in that
+//! order, and all of them before the first change.
 
 use std::ops::Range;
 
@@ -29,45 +29,46 @@ const SETTLE: u8 = 4;
 const MOST_CELLS: u8 = 64;
 const MOST_JOBS: u8 = 128;
 
-/// Header: "how the job is settled: 0 not yet, 1 by its own run, 2 by its guess"
+/// R72: how a job is settled.
 const NOT_SETTLED: u8 = 0;
 const BY_OWN_RUN: u8 = 1;
 const BY_GUESS: u8 = 2;
 
-/// Header: "the job's guess: 0 never started, 1 out, 2 with a stored report, 3
-/// thrown away"
+/// R72: the states of a guess.
 const NEVER_STARTED: u8 = 0;
 const OUT: u8 = 1;
 const STORED: u8 = 2;
 const THROWN_AWAY: u8 = 3;
 
-/// "unused places are 0"
+/// What places not in use hold (R30), and what a refused call hands out (R81).
 const ZEROS: [i32; 4] = [0; 4];
 
-/// Header: "A batch. The first `cell_count` cells and the first `job_count`
-/// places of each column are in use; what stands in the other places is never
-/// looked at." The bytes between the fields are not held at all.
+/// R90: a batch. R92: only the first `cell_count` cells and the first `job_count`
+/// places of each column are looked at. The bytes between the fields are not held
+/// at all.
 #[derive(Clone, PartialEq, Eq, Debug)]
 pub struct Record {
     pub cell_count: u8,
     pub job_count: u8,
-    /// Header: "1 once the list of jobs is sealed, else 0"
+    /// 1 once the batch is sealed, else 0.
     pub sealed: u8,
-    /// Header: "1 if guesses may be started, else 0"
+    /// 1 if guessing is on, else 0.
     pub speculating: u8,
     pub cells: [i32; 64],
     /// Always 128.
     pub jobs: Vec<Job>,
     /// Always 128.
     pub runs: Vec<Run>,
+    /// How the job is settled.
     pub committed: [u8; 128],
-    /// Header: "1 while the job's own run is out, else 0"
+    /// 1 while the job's own run is out, else 0.
     pub running: [u8; 128],
+    /// The state of the job's guess.
     pub phase: [u8; 128],
 }
 
-/// Header: "A job as inserted: its kind, the kind's parameter, and its accesses.
-/// The first `arity` places are in use." An access is a cell and a mode.
+/// R3: a job as inserted. The first `arity` accesses are in use; each is a cell
+/// and a mode.
 #[derive(Clone, Copy, PartialEq, Eq, Debug, Default)]
 pub struct Job {
     pub kind: u8,
@@ -76,23 +77,21 @@ pub struct Job {
     pub accesses: [(u8, u8); 4],
 }
 
-/// Header: "A job holds one run at a time, its own or its guess."
+/// R90: the one run that a job holds, its own or its guess.
 #[derive(Clone, Copy, PartialEq, Eq, Debug, Default)]
 pub struct Run {
     pub handed: [i32; 4],
     pub reported: [i32; 4],
-    /// The report's mark.
+    /// The stored mark.
     pub wrote: u8,
-    /// Header: "for each access one more than the number of the job whose guess
-    /// the value was taken from, 0 for the cell itself"
+    /// For each place one more than the number of the job taken from, 0 for none.
     pub sources: [u8; 4],
-    /// Header: "the jobs that it looked past"; bit j is job j.
+    /// The jobs looked past; bit j is job j.
     pub bypassed: u128,
 }
 
-/// Header: "How a job stands: the columns and the run's values as the record has
-/// them, and the job as inserted. `wrote` is the mark of a settled job, and 0
-/// before that. Zeros where it is refused."
+/// R72: how a job stands. All as the record has it, accesses not in use too; but
+/// `wrote` is 0 while the job is not settled. Zeros where it is refused (R81).
 #[derive(Clone, Copy, PartialEq, Eq, Debug, Default)]
 pub struct JobAnswer {
     pub refusal: u8,
@@ -105,8 +104,7 @@ pub struct JobAnswer {
     pub job: Job,
 }
 
-/// Header: "How the batch stands: finished once it is sealed and every job
-/// settled. Zeros where it is refused."
+/// R73: how the batch stands. Zeros where it is refused (R81).
 #[derive(Clone, Copy, PartialEq, Eq, Debug, Default)]
 pub struct BatchAnswer {
     pub refusal: u8,
@@ -118,7 +116,7 @@ pub struct BatchAnswer {
 }
 
 // ---------------------------------------------------------------------------
-// The record in memory: the header's structs on x86-64
+// The record in memory (R95): the header's structs on x86-64
 
 const CELLS_AT: usize = 4;
 const JOBS_AT: usize = 260;
@@ -156,9 +154,8 @@ impl Job {
 }
 
 impl Run {
-    /// Handed at 0, reported at 16, wrote at 32, sources at 33, bypassed at 40,
-    /// of which the header says: "bit j of `low` is job j, bit j of `high` is job
-    /// 64 + j".
+    /// Handed at 0, reported at 16, wrote at 32, sources at 33, bypassed at 40: two
+    /// words, bit j of the first for job j, of the second for job 64 + j.
     fn from_bytes(bytes: &[u8]) -> Run {
         let mut bypassed = 0;
         for (place, byte) in bytes[40..56].iter().enumerate() {
@@ -201,8 +198,8 @@ impl Record {
         }
     }
 
-    /// The record that an accepted opening hands back, "unsealed and without
-    /// jobs". None stands for "1: cell count not 1 to 64".
+    /// R5: the record that an accepted opening hands back, not sealed and without
+    /// jobs. None stands for R101, not 1 to 64 heights.
     pub fn open(heights: &[i32]) -> Option<Record> {
         if heights.is_empty() || heights.len() > usize::from(MOST_CELLS) {
             return None;
@@ -258,26 +255,27 @@ impl Job {
 
     /// With which of 4 to 8 inserting refuses this job; 0 with none of them.
     fn refusal(&self, cell_count: u8) -> u8 {
-        // "4: access count not 1 to 4."
+        // R104: not 1 to 4 accesses.
         if self.arity < 1 || self.arity > 4 {
             return 4;
         }
         let used = self.used();
-        // "5: cell number not below the cell count."
+        // R105: a cell that is not there.
         if used.iter().any(|&(cell, _)| cell >= cell_count) {
             return 5;
         }
-        // "6: mode not 0 to 2."
+        // R106: another mode than 0, 1 and 2.
         if used.iter().any(|&(_, mode)| mode > MAYBE) {
             return 6;
         }
-        // "7: a cell twice in a job."
+        // R107: a cell twice.
         for (place, access) in used.iter().enumerate() {
             if used[..place].iter().any(|before| before.0 == access.0) {
                 return 7;
             }
         }
-        // "8: kind not 0 to 6, or modes not those of the kind"; kind 0 is free.
+        // R108: no kind, or number and modes of the accesses are not the kind's.
+        // Kind 0 may have any.
         if self.kind > 6 {
             return 8;
         }
@@ -295,8 +293,8 @@ impl Job {
 }
 
 impl Run {
-    /// The jobs whose guesses this run took from. All four places of `sources`
-    /// are looked at, also those past the job's accesses (README, point 43).
+    /// The jobs whose guesses this run took from. R93: looked up in all four
+    /// places, in use or not.
     fn took_from(&self) -> impl Iterator<Item = usize> + '_ {
         let named = self.sources.iter().filter(|&&source| source != 0);
         named.map(|&source| usize::from(source) - 1)
@@ -307,42 +305,38 @@ impl Run {
     }
 }
 
-/// Whether a report with this mark writes the cell of an access of this mode: "A
-/// job's write cells get the values of its counted report, its maybe-write cells
-/// too if the mark is 1; all other cells stay."
+/// R33: whether a report with this mark writes the cell of an access of this mode.
 fn is_written(mode: u8, mark: u8) -> bool {
     mode == WRITE || (mode == MAYBE && mark == 1)
 }
 
 // ---------------------------------------------------------------------------
-// "32: the record is out of form"
+// R132: the record is out of form
 
 impl Record {
-    /// Whether 32 does not apply. Looked at are the counts, the two states of the
-    /// batch, and the held jobs, each with its run and its columns.
+    /// R91: whether 32 does not apply. Looked at are the counts, the two states of
+    /// the batch, and the held jobs, each with its run and its columns.
     pub fn in_form(&self) -> bool {
-        // "a count outside its limits": "A batch has 1 to 64 cells ... and 0 to
-        // 128 jobs". Those of accesses belong to refusal 4 of the held job.
+        // R1, R2. The numbers of accesses come under 4 of each held job.
         let cells = 1 <= self.cell_count && self.cell_count <= MOST_CELLS;
         let jobs = self.job_count <= MOST_JOBS;
-        // "a state ... outside its list"
+        // Each by itself: not sealed and yet guessing on is in form.
         let states = self.sealed <= 1 && self.speculating <= 1;
         cells && jobs && states && self.held().all(|job| self.held_job_in_form(job))
     }
 
     fn held_job_in_form(&self, job: usize) -> bool {
-        // "a held job that inserting would refuse with 4 to 8"
+        // Inserting would not refuse it with 4 to 8.
         let sound = self.jobs[job].refusal(self.cell_count) == 0;
-        // "a state ... outside its list"
+        // Each by itself, in whatever combination.
         let states = self.committed[job] <= BY_GUESS
             && self.running[job] <= 1
             && self.phase[job] <= THROWN_AWAY;
-        // "a ... mark outside its list": "1 if the maybe-write cells were
-        // written, else 0", whatever the job's modes (README, point 39).
+        // 0 or 1, whatever the job's modes.
         let run = &self.runs[job];
         let mark = run.wrote <= 1;
-        // "a guess that looked past or took from a job not before its own":
-        // judged of every held job, whatever its phase.
+        // Jobs looked past and taken from are before it, whether or not a guess
+        // was ever started.
         let past = run.bypassed >> job == 0; // no bit from the job's own on
         let taken = run.took_from().all(|other| other < job);
         sound && states && mark && past && taken
@@ -357,15 +351,16 @@ impl Record {
 // Inserting and sealing
 
 impl Record {
+    /// R6: adds the job as the last.
     pub fn insert(&mut self, job: Job) -> u8 {
         if !self.in_form() {
             return 32;
         }
-        // "2: insert or seal after sealing."
+        // R102: sealed already.
         if self.sealed == 1 {
             return 2;
         }
-        // "3: 128 jobs are held."
+        // R103: 128 jobs are held.
         if self.job_count == MOST_JOBS {
             return 3;
         }
@@ -373,9 +368,8 @@ impl Record {
         if refusal != 0 {
             return refusal;
         }
-        // Header: "the job comes into the first place not in use, with zeros in
-        // its run and in the other columns; job_count grows." Also the accesses
-        // not in use are "held as given".
+        // R92, R94: all of the place is overwritten, with zeros but for the job.
+        // R6: the job is held as given, accesses not in use too.
         let place = usize::from(self.job_count);
         self.jobs[place] = job;
         self.runs[place] = Run::default();
@@ -386,19 +380,19 @@ impl Record {
         0
     }
 
+    /// R7, R94: sealed, with guessing off (0) or on (1).
     pub fn seal(&mut self, guessing: u8) -> u8 {
         if !self.in_form() {
             return 32;
         }
-        // "2: insert or seal after sealing."
+        // R102: sealed already.
         if self.sealed == 1 {
             return 2;
         }
-        // "9: guess switch not 0 or 1."
+        // R109: the switch is neither 0 nor 1.
         if guessing > 1 {
             return 9;
         }
-        // "Sealing fixes the list and says guessing off (0) or on (1)."
         self.sealed = 1;
         self.speculating = guessing;
         0
@@ -436,19 +430,19 @@ impl<'a> Rules<'a> {
         rules
     }
 
-    /// "Two jobs conflict if they share a cell and at least one access to it is
-    /// not a read."
+    /// R20: a cell in common, and not both only read it.
     fn conflict(&self, one: usize, other: usize) -> bool {
         let by_one = self.cells_not_read[one] & self.cells[other];
         let by_other = self.cells[one] & self.cells_not_read[other];
         by_one != 0 || by_other != 0
     }
 
+    /// R93: where the number says how.
     fn is_settled(&self, job: usize) -> bool {
         self.record.committed[job] != NOT_SETTLED
     }
 
-    /// "A job is ready when each earlier conflicting job is settled."
+    /// R21: every earlier job in conflict with it is settled.
     fn is_ready(&self, job: usize) -> bool {
         (0..job).all(|earlier| self.is_settled(earlier) || !self.conflict(earlier, job))
     }
@@ -457,15 +451,16 @@ impl<'a> Rules<'a> {
         self.record.running[job] == 1
     }
 
-    /// Whether the job has a guess that is out or stored. One that is thrown away
-    /// neither falls nor stands any more.
+    /// Whether the job has a guess that is out or stored. R43, R44: no other has
+    /// fallen or stands.
     fn has_live_guess(&self, job: usize) -> bool {
         let phase = self.record.phase[job];
         phase == OUT || phase == STORED
     }
 
-    /// "A guess has fallen if a job it looked past is settled with mark 1, or a
-    /// guess it took from has fallen or been thrown away."
+    /// R43: a job that it looked past is settled with mark 1, or the guess of a job
+    /// that it took from has fallen or is thrown away. R93: with mark 1 is, where
+    /// it is settled and the mark stored in its run is 1.
     fn has_fallen(&self, job: usize) -> bool {
         let run = &self.record.runs[job];
         let past =
@@ -474,20 +469,17 @@ impl<'a> Rules<'a> {
         self.has_live_guess(job) && ((0..job).any(past) || run.took_from().any(lost))
     }
 
-    /// "A ready job's guess that has not fallen stands." It need not have
-    /// reported.
+    /// R44: out or stored, of a ready job, and not fallen.
     fn guess_stands(&self, job: usize) -> bool {
         self.has_live_guess(job) && self.is_ready(job) && !self.fallen[job]
     }
 
-    /// The run that a guess of this job started now would be, or none where 15
-    /// applies: "start guess when a writer met has no stored report or its guess
-    /// has fallen."
+    /// The run that a guess of this job started now would be, or none where a job
+    /// that it would take from has no stored guess or a fallen one (R115).
     ///
-    /// "For each cell of the job, go back through earlier unsettled jobs. A
-    /// maybe-writer of that cell is looked past; at a writer (mode 1) the value
-    /// its guess reported is taken; if none is met, the present cell value is
-    /// handed out."
+    /// R41: for each access, back through the unsettled jobs. Maybe-writers of
+    /// the cell are looked past; the first writer ends it, and what its guess has
+    /// stored is taken. Without a writer the present value stays.
     fn new_guess(&self, job: usize) -> Option<Run> {
         let record = self.record;
         let mut run = Run {
@@ -509,7 +501,7 @@ impl<'a> Rules<'a> {
                         run.sources[place] = earlier as u8 + 1;
                         break;
                     }
-                    // A reader is passed; nothing is noted of it.
+                    // R41: a reader leaves no trace.
                     _ => {}
                 }
             }
@@ -517,9 +509,8 @@ impl<'a> Rules<'a> {
         Some(run)
     }
 
-    /// For every job the length of "the longest chain of later jobs, each
-    /// conflicting with the one before it", "the job itself counted". Settled
-    /// jobs are jobs like the others here.
+    /// R22: for every job the length of the longest chain from it on, over all jobs
+    /// held, settled ones too.
     fn chains(&self) -> Vec<u8> {
         let count = self.cells.len();
         let mut chains = vec![1; count];
@@ -538,14 +529,14 @@ impl<'a> Rules<'a> {
 // What refuses a step: 10 to 18
 
 impl Rules<'_> {
-    /// 0 if the step 0 to 4 is allowed on the job, else the refusal. Header:
-    /// "Steps 0, 1 and 4 do not look at the report", here at its mark.
+    /// 0 if the step 0 to 4 is allowed on the job, else the refusal. The mark is
+    /// asked for by steps 2 and 3 only (R116).
     fn refusal(&self, step: u8, job: usize, mark: u8) -> u8 {
-        // "10: step or choice before sealing."
+        // R110: not sealed.
         if self.record.sealed == 0 {
             return 10;
         }
-        // "11: job number not below the job count."
+        // R111: no such job.
         if !self.record.held().contains(&job) {
             return 11;
         }
@@ -553,7 +544,7 @@ impl Rules<'_> {
             START_OWN => self.start_own_refusal(job),
             START_GUESS => self.start_guess_refusal(job),
             REPORT_OWN => self.report_refusal(job, self.own_is_out(job), mark),
-            // "a thrown-away guess is not" out
+            // R113: one thrown away is not out.
             REPORT_GUESS => self.report_refusal(job, self.record.phase[job] == OUT, mark),
             SETTLE => self.settle_refusal(job),
             _ => unreachable!("a step above 4 is answered before"),
@@ -561,15 +552,15 @@ impl Rules<'_> {
     }
 
     fn start_own_refusal(&self, job: usize) -> u8 {
-        // "13: start own when settled or its own run is out"
+        // R113: settled, or its own run is out.
         if self.is_settled(job) || self.own_is_out(job) {
             return 13;
         }
-        // "15: start own or settle of a job not ready"
+        // R115: not ready.
         if !self.is_ready(job) {
             return 15;
         }
-        // "17: start own while its guess stands."
+        // R117: its guess stands.
         if self.guess_stands(job) {
             return 17;
         }
@@ -577,22 +568,20 @@ impl Rules<'_> {
     }
 
     fn start_guess_refusal(&self, job: usize) -> u8 {
-        // "12: start guess with guessing off."
+        // R112: guessing is off.
         if self.record.speculating == 0 {
             return 12;
         }
-        // "13: start guess when settled, its own run is out, or a guess was ever
-        // started"
+        // R113: settled, its own run is out, or a guess was ever started.
         let ever_started = self.record.phase[job] != NEVER_STARTED;
         if self.is_settled(job) || self.own_is_out(job) || ever_started {
             return 13;
         }
-        // "14: start guess of a ready job."
+        // R114: ready.
         if self.is_ready(job) {
             return 14;
         }
-        // "15: start guess when a writer met has no stored report or its guess
-        // has fallen."
+        // R115: a job to take from has no stored guess, or a fallen one.
         if self.new_guess(job).is_none() {
             return 15;
         }
@@ -600,12 +589,12 @@ impl Rules<'_> {
     }
 
     fn report_refusal(&self, job: usize, that_run_is_out: bool, mark: u8) -> u8 {
-        // "13: report own or guess when that run is not out": of a settled job
-        // too nothing else is asked.
+        // R113: that run is not out. R93: of a settled job too nothing else is
+        // asked.
         if !that_run_is_out {
             return 13;
         }
-        // "16: mark not 0 or 1, or 1 from a job without mode 2."
+        // R116: neither 0 nor 1, or 1 of a job that maybe-writes nothing.
         if mark > 1 || (mark == 1 && !self.record.jobs[job].has_maybe_write()) {
             return 16;
         }
@@ -613,15 +602,15 @@ impl Rules<'_> {
     }
 
     fn settle_refusal(&self, job: usize) -> u8 {
-        // "13: settle when settled or no guess is in stored state."
+        // R113: settled, or no guess is stored.
         if self.is_settled(job) || self.record.phase[job] != STORED {
             return 13;
         }
-        // "15: start own or settle of a job not ready"
+        // R115: not ready.
         if !self.is_ready(job) {
             return 15;
         }
-        // "18: settle a fallen guess."
+        // R118: the guess has fallen.
         if self.fallen[job] {
             return 18;
         }
@@ -634,13 +623,12 @@ impl Rules<'_> {
 
 impl Record {
     /// The step with this number on the job: 0 or the refusal, and the values
-    /// handed out, "and four zeros otherwise" (header).
+    /// handed out, or four zeros where none are.
     pub fn step(&mut self, number: u8, job: usize, values: [i32; 4], wrote: u8) -> (u8, [i32; 4]) {
         if !self.in_form() {
             return (32, ZEROS);
         }
-        // Header: "21 for a number above 4". That is no step, so that none of 10
-        // to 18 applies to it.
+        // R121: no step, so that 10 to 19 do not apply to it.
         if number > SETTLE {
             return (21, ZEROS);
         }
@@ -664,32 +652,26 @@ impl Record {
         (0, if starts { self.runs[job].handed } else { ZEROS })
     }
 
-    /// "0 start own: hands out present cell values." Header: "the job's run
-    /// becomes the values handed out, zeros else; running becomes 1, and a phase
-    /// other than 0 becomes 3."
+    /// R51, R94: the run becomes the present values and zeros else.
     fn start_own(&mut self, job: usize) {
         self.runs[job] = Run {
             handed: self.present_values(job),
             ..Run::default()
         };
         self.running[job] = 1;
-        // "Starting a job's own run throws its fallen guess away." A guess that
-        // is out or stored here has fallen, or 17 would have applied.
+        // A guess that is out or stored here has fallen, or 17 would have applied.
         if self.phase[job] != NEVER_STARTED {
             self.phase[job] = THROWN_AWAY;
         }
     }
 
-    /// "1 start guess". Header: "the job's run becomes the values handed out with
-    /// their sources and bypassed, zeros else; phase becomes 1."
+    /// R52, R94: the run becomes what R41 finds, and zeros else.
     fn start_guess(&mut self, job: usize, run: Run) {
         self.runs[job] = run;
         self.phase[job] = OUT;
     }
 
-    /// "2 report own: writes its cells and settles the job." Header: "the report
-    /// is stored in the run and written into the cells; committed becomes 1,
-    /// running 0."
+    /// R53, R94: stored and written into the cells; the job is settled.
     fn report_own(&mut self, job: usize, values: [i32; 4], mark: u8) {
         self.store_report(job, values, mark);
         self.write_cells(job);
@@ -697,21 +679,19 @@ impl Record {
         self.running[job] = 0;
     }
 
-    /// "3 report guess: stores the report; no cell changes." Header: "the report
-    /// is stored in the run; phase becomes 2."
+    /// R54, R94: stored; no cell changes.
     fn report_guess(&mut self, job: usize, values: [i32; 4], mark: u8) {
         self.store_report(job, values, mark);
         self.phase[job] = STORED;
     }
 
-    /// "4 settle: writes the stored report into the cells; the job is settled by
-    /// its guess with that mark." Header: "committed becomes 2."
+    /// R55, R94: what is stored is written into the cells; the job is settled.
     fn settle(&mut self, job: usize) {
         self.write_cells(job);
         self.committed[job] = BY_GUESS;
     }
 
-    /// The present values of the job's cells; "unused places are 0".
+    /// R31: the heights of the job's cells; R30: 0 in places not in use.
     fn present_values(&self, job: usize) -> [i32; 4] {
         let mut values = ZEROS;
         for (place, &(cell, _)) in self.jobs[job].used().iter().enumerate() {
@@ -720,8 +700,8 @@ impl Record {
         values
     }
 
-    /// "Values reported for cells not written are ignored and the handed ones
-    /// stored." "unused places are 0", whatever stands handed there.
+    /// R34: the reported value where the cell is written, else the handed one as it
+    /// stands; R30: 0 in places not in use, whatever stands handed there.
     fn store_report(&mut self, job: usize, values: [i32; 4], mark: u8) {
         let run = &mut self.runs[job];
         run.reported = ZEROS;
@@ -736,7 +716,7 @@ impl Record {
         run.wrote = mark;
     }
 
-    /// The run's report, as it is stored, into the cells that it writes.
+    /// R35: the run's report, as it is stored, into the cells that it writes.
     fn write_cells(&mut self, job: usize) {
         let run = &self.runs[job];
         for (place, &(cell, mode)) in self.jobs[job].used().iter().enumerate() {
@@ -751,22 +731,20 @@ impl Record {
 // The chooser
 
 impl Record {
-    /// Refusal, step, job, chain; zeros after a refusal.
+    /// R62: refusal, step, job, chain; zeros after a refusal.
     pub fn choose(&self) -> (u8, u8, u8, u8) {
         if !self.in_form() {
             return (32, 0, 0, 0);
         }
-        // "10: step or choice before sealing."
+        // R110: not sealed.
         if self.sealed == 0 {
             return (10, 0, 0, 0);
         }
         let rules = Rules::of(self);
         let chains = rules.chains();
-        // "The chooser names one allowed step among 4, 0 and 1, in that order of
-        // preference."
+        // R60: a step 4 if one is allowed, else a 0, else a 1.
         for step in [SETTLE, START_OWN, START_GUESS] {
-            // "Within a step number it takes the job with the longest chain of
-            // later jobs ... Ties go to the lowest job number."
+            // R61: of the job with the longest chain, the lowest number first.
             let mut best: Option<usize> = None;
             for job in self.held() {
                 let longer = best.map_or(true, |named| chains[job] > chains[named]);
@@ -778,20 +756,20 @@ impl Record {
                 return (0, step, job as u8, chains[job]);
             }
         }
-        // "19: the chooser finds no allowed step 4, 0 or 1."
+        // R119: none is allowed.
         (19, 0, 0, 0)
     }
 }
 
 // ---------------------------------------------------------------------------
-// The reader of results: "Asking is allowed before sealing."
+// The reader of results. R70: before sealing too.
 
 impl Record {
     pub fn ask_cell(&self, cell: usize) -> (u8, i32) {
         if !self.in_form() {
             return (32, 0);
         }
-        // "5 and 11: as above, for asking a cell or a job."
+        // R105: no such cell.
         if cell >= usize::from(self.cell_count) {
             return (5, 0);
         }
@@ -805,7 +783,7 @@ impl Record {
                 ..JobAnswer::default()
             };
         }
-        // "5 and 11: as above, for asking a cell or a job."
+        // R111: no such job.
         if !self.held().contains(&job) {
             return JobAnswer {
                 refusal: 11,
@@ -817,7 +795,7 @@ impl Record {
         JobAnswer {
             refusal: 0,
             committed: self.committed[job],
-            // "An unsettled job's mark is 0."
+            // R72: 0 where it is not settled.
             wrote: if settled { run.wrote } else { 0 },
             running: self.running[job],
             phase: self.phase[job],
@@ -834,6 +812,7 @@ impl Record {
                 ..BatchAnswer::default()
             };
         }
+        // R8: also with no jobs at all.
         let all_settled = self.held().all(|job| self.committed[job] != NOT_SETTLED);
         BatchAnswer {
             refusal: 0,
@@ -845,8 +824,8 @@ impl Record {
         }
     }
 
-    /// "20: cells are copied out from a given place of a longer buffer, and fewer
-    /// places remain than cells. All other places keep their values."
+    /// R74: the cells from that place of the buffer on; all other places keep what
+    /// they hold. R120: too few places are left.
     pub fn copy_out(&self, buffer: &mut [i32], at: usize) -> u8 {
         if !self.in_form() {
             return 32;

@@ -1,4 +1,5 @@
-//! The worked plan, the two batches of the request, and P1 to P9.
+//! The worked examples of the rules, P1 to P10, Monday's and Thursday's batch, and
+//! some others.
 
 use second_hand::answer;
 use second_hand::engine::{conflict, Access, Batch, Job, Report, Settled, MAYBE, READ, WRITE};
@@ -177,13 +178,15 @@ fn the_chooser() {
 }
 
 #[test]
-fn limits_that_are_accepted() {
+fn p10_limits() {
     let mut batch = Batch::open(&[0; 64]).unwrap();
     for _ in 0..128 {
         batch.insert(4, 0, &[on(63, MAYBE)]).unwrap();
     }
     assert_eq!(batch.insert(4, 0, &[on(63, MAYBE)]), Err(3));
-    let mut batch = Batch::open(&[0]).unwrap();
+    assert_eq!(Batch::open(&[0; 65]), Err(1));
+    let mut batch = Batch::open(&[0; 5]).unwrap();
+    assert_eq!(batch.insert(0, 0, &[0, 1, 2, 3, 4].map(|cell| on(cell, READ))), Err(4));
     assert!(!batch.finished());
     batch.seal(0).unwrap();
     assert!(batch.finished());

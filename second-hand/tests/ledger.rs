@@ -1,5 +1,5 @@
-//! Demand 3, tried out on random lists of calls with the ledger of document 01,
-//! which is kept here from the calls alone.
+//! The claim of R170 to R176, tried out on random lists of calls. The ledger
+//! (R162) is kept here from the calls alone.
 
 use second_hand::engine::{Access, Batch, Report, Settled, MAYBE, WRITE};
 use second_hand::kinds;
@@ -32,8 +32,8 @@ struct Ledger {
 }
 
 impl Ledger {
-    /// The insertion-order run of the counted reports: for each job the heights
-    /// just before its turn, and the heights at the end.
+    /// R165, the insertion-order run of the counted reports: for each job what the
+    /// jobs before it left (R166), and the heights at the end.
     fn run(&self) -> (Vec<[i32; 4]>, Vec<i32>) {
         let mut cells = self.heights.clone();
         let mut before = Vec::new();
@@ -72,7 +72,7 @@ fn random_job(dice: &mut Dice, cells: u64) -> (u32, i32, Vec<Access>) {
     (kind, dice.below(40) as i32 - 20, accesses)
 }
 
-/// A fixed rule for what a job reports of what it is handed.
+/// R176: a fixed rule for what a job reports of what it is handed.
 fn rule(line: &Line, handed: [i32; 4]) -> Report {
     match kinds::result(line.kind, line.p, handed) {
         Ok(report) => report,
@@ -129,7 +129,7 @@ fn one_list(dice: &mut Dice, heights: &[i32], jobs: &[(u32, i32, Vec<Access>)], 
             _ => batch.settle(job).map(|()| None),
         };
         let Ok(handed) = answer else {
-            // "A refusal changes nothing."
+            // R81: a refused call changes nothing.
             assert_eq!(batch, before);
             continue;
         };
@@ -148,13 +148,15 @@ fn one_list(dice: &mut Dice, heights: &[i32], jobs: &[(u32, i32, Vec<Access>)], 
         if step == 2 || step == 4 {
             assert!(line.counted.is_some());
         }
-        // "no job has had more than four accepted steps"
+        // R171
         assert!(line.steps <= 4);
 
+        // R173: the cells.
         let (left, cells) = ledger.run();
         for (cell, height) in cells.iter().enumerate() {
             assert_eq!(batch.ask_cell(cell as u32), Ok(*height));
         }
+        // R174: what counted runs were handed. R175: how jobs are settled.
         for (number, line) in ledger.jobs.iter().enumerate() {
             let asked = batch.ask_job(number as u32).unwrap();
             match line.counted {
@@ -168,7 +170,7 @@ fn one_list(dice: &mut Dice, heights: &[i32], jobs: &[(u32, i32, Vec<Access>)], 
                 }
             }
         }
-        // "while a job of a sealed batch is unsettled, some step ... is accepted"
+        // R172: while a job is not settled, some step is accepted.
         if ledger.jobs.iter().any(|line| line.counted.is_none()) {
             let some = (0..5).any(|step| (0..count as u32).any(|job| batch.would_answer(step, job) == Some(0)));
             assert!(some);

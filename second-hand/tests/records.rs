@@ -528,7 +528,7 @@ fn openings() {
 }
 
 // ---------------------------------------------------------------------------
-// (b) Every clause of 32
+// (b) R91: every clause of 32
 
 /// Every entry gives 32, hands out zeros and changes nothing.
 fn out_of_form(record: &Record) {
@@ -789,8 +789,7 @@ fn scribbled(dice: &mut Dice, record: &Record) -> Record {
     other
 }
 
-/// "what stands in the other places is never looked at": not by 32 and not by
-/// any entry.
+/// R92: places not in use are looked at neither by 32 nor by any entry.
 #[test]
 fn places_not_in_use() {
     let mut dice = Dice(99);
@@ -836,7 +835,8 @@ fn insert_into_a_place_not_blank() {
     );
 }
 
-/// "32 goes before all": then 21, then the others from the lowest on.
+/// R100: 32 goes before all. Then 21 of what is no step, then the others from the
+/// lowest on.
 #[test]
 fn order_of_refusals() {
     let mut open = Record::open(&[0]).unwrap();
@@ -871,7 +871,7 @@ fn order_of_refusals() {
 }
 
 // ---------------------------------------------------------------------------
-// (c) States that no list of calls leads to
+// (c) R93: states that no list of calls leads to
 
 /// The quay with the floor's job looked past by the guess of job 1, whose report
 /// 1520 is stored, and job 2 built on it with 1540 stored.
@@ -1123,7 +1123,7 @@ fn every_job_out_of_reach() {
 // ---------------------------------------------------------------------------
 // Damaged records
 
-/// Conflict straight from its sentence, without sets.
+/// Conflict straight from R20, without sets.
 fn conflict(one: &Job, other: &Job) -> bool {
     let used = |job: &Job| job.accesses[..usize::from(job.arity)].to_vec();
     used(one).iter().any(|a| {

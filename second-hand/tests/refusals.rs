@@ -1,4 +1,4 @@
-//! Each refusal once or more, and the order among them.
+//! R101 to R122: each refusal once or more, and the order among them (R100).
 
 use second_hand::engine::{Access, Batch, Report, MAYBE, READ, WRITE};
 use second_hand::{answer, kinds};
