@@ -8,8 +8,8 @@ pub const REPORT_OWN: u8 = 2;
 pub const REPORT_SPECULATION: u8 = 3;
 pub const COMMIT: u8 = 4;
 
-/// An engine of document 01. An answer is 0 if the call was accepted, else the
-/// number of its refusal.
+/// An engine by the rules of docs/RULES.md. An answer is 0 if the call was
+/// accepted, else the number of its refusal.
 pub trait Engine {
     /// The size of the batch record, or none if it is spread over the heap.
     const RECORD_BYTES: Option<usize>;

@@ -1,5 +1,6 @@
-//! Document 01's engine in plain Rust over `&mut`: the same rules and refusals,
-//! but the record is trusted (no refusal 32), never copied, and without proof.
+//! The engine in plain Rust over `&mut`: the same rules and refusals
+//! (docs/RULES.md), but the record is trusted (no refusal 32), never copied, and
+//! without proof.
 //!
 //! All state is in fixed arrays. A set of jobs is one word of 128 bits, so that
 //! readiness is one mask, and a pass over the jobs touches only those in question.
@@ -503,8 +504,8 @@ impl Plain {
         Ok((how + by_speculation, u8::from(has(self.wrote, job))))
     }
 
-    /// What document 01 asks of a record before a call relies on it (32). The
-    /// plain engine does without; `priced.rs` uses it to see what it costs.
+    /// R91: what is asked of a record before a call relies on it (32). The plain
+    /// engine does without; `priced.rs` uses it to see what it costs.
     pub fn is_in_form(&self) -> bool {
         (1..=MOST_CELLS).contains(&self.cell_count)
             && self.job_count <= MOST_JOBS

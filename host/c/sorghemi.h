@@ -3,7 +3,7 @@
  * Every function of the library takes the record by value and hands the changed one back with its answer, but for
  * sorghemi_step, to which the host lends its record. An answer's `refusal` is 0, or the number of a refusal
  * (host/README.md has their meanings), and a refused call changes nothing. Functions here that begin with
- * sorghemi_batch_ do the same on a record behind a pointer.
+ * sorghemi_batch_ do the same on a record behind a pointer. What the calls do is said in docs/RULES.md.
  */
 #ifndef SORGHEMI_H
 #define SORGHEMI_H
@@ -59,7 +59,7 @@ typedef struct {
     uint8_t phase[128];     /* the job's guess: 0 never started, 1 out, 2 with a stored report, 3 thrown away */
 } sorghemi_batch;
 
-/* What a call that is accepted changes of the record, and nothing else changes:
+/* What a call that is accepted changes of the record, and nothing else changes (R94 of docs/RULES.md):
  * insert: the job comes into the first place not in use, with zeros in its run and in the other columns; job_count grows.
  * seal: sealed becomes 1, speculating what the host says.
  * step 0: the job's run becomes the values handed out, zeros else; running becomes 1, and a phase other than 0 becomes 3.

@@ -1,4 +1,4 @@
-//! Refusals: document 01's numbers, with their meanings in words.
+//! Refusals: their numbers, with their meanings in words. Refusal n is rule R(100 + n) of docs/RULES.md.
 
 use std::fmt;
 

@@ -72,7 +72,7 @@ fn the_chooser_drives_a_batch_to_its_end() {
                 assert_eq!(refusal.number(), 19);
                 let (step, job, handed) = out.pop_front().unwrap();
                 let report = result(&jobs[job], handed);
-                // A guess may have been thrown away meanwhile; its report is then refused, as document 01 says.
+                // A guess may have been thrown away meanwhile; its report is then refused (R113).
                 match batch.step(step, job, report) {
                     Ok(_) => {}
                     Err(refusal) => assert_eq!((step, refusal.number()), (Step::ReportSpeculation, 13)),
