@@ -219,6 +219,11 @@ fn faults_with_numbers_of_the_engine() {
     fault("4 1400 0 - -", "4 1400 1 0 -", 8, 5);
     fault("4 1400 0 - -", "3 1400 1 - -", 8, 5);
     fault("guess\n1\n", "guess\n2\n", 9, 8);
+    // Cut to a byte these would be right.
+    fault("guess\n1\n", "guess\n256\n", 9, 8);
+    fault("guess\n1\n", "guess\n257\n", 9, 8);
+    fault("4 1400 0 - -", "4 1400 256 - -", 5, 5);
+    fault("4 1400 0 - -", "260 1400 0 - -", 8, 5);
 }
 
 #[test]

@@ -16,11 +16,19 @@ fn main() -> std::io::Result<()> {
     let mut seen: BTreeMap<&'static str, u64> = BTreeMap::new();
     let mut answers: BTreeMap<u32, u64> = BTreeMap::new();
     let mut faults: BTreeMap<u32, u64> = BTreeMap::new();
+    let mut cut: BTreeMap<u32, u64> = BTreeMap::new();
+    let mut switches: BTreeMap<u32, u64> = BTreeMap::new();
 
     while let Some(bytes) = frame::read(&mut input)? {
         plans += 1;
         match plan::read(&bytes) {
-            Err(fault) => *faults.entry(fault.number).or_default() += 1,
+            Err(fault) => {
+                *faults.entry(fault.number).or_default() += 1;
+                *cut.entry(fault.number).or_default() += u64::from(sound_if_cut(&bytes, fault));
+                if let Some(switch) = faulty_switch(&bytes, fault) {
+                    *switches.entry(switch).or_default() += 1;
+                }
+            }
             Ok(plan) => {
                 sound += 1;
                 let mut batch = plan.batch;
@@ -38,6 +46,10 @@ fn main() -> std::io::Result<()> {
                     }
                     if answer == 0 && step.step == 3 && batch.guess_has_fallen(step.job) {
                         names.insert(NAMES[12]);
+                    }
+                    let there = step.job % PAST_A_BYTE < batch.job_count();
+                    if step.job >= PAST_A_BYTE && there {
+                        names.insert(NAMES[13]);
                     }
                     steps += 1;
                     accepted += u64::from(answer == 0);
@@ -67,10 +79,58 @@ fn main() -> std::io::Result<()> {
     for number in [1, 2, 3, 4, 5, 6, 7, 8, 9, 21, 22] {
         println!("  {number}: {}", faults.get(&number).copied().unwrap_or(0));
     }
+    let from_256: u64 = switches.range(PAST_A_BYTE..).map(|(_, times)| times).sum();
+    println!("plans at fault with a switch of 256 or more: {from_256}");
+    for switch in [256, 257] {
+        println!("  {switch}: {}", switches.get(&switch).copied().unwrap_or(0));
+    }
+    println!("plans at fault on a line that would be right if its numbers were cut to bytes:");
+    for (number, what) in [(5, "cell"), (8, "kind"), (9, "switch")] {
+        println!("  {number}, {what}: {}", cut.get(&number).copied().unwrap_or(0));
+    }
     Ok(())
 }
 
-const NAMES: [&str; 13] = [
+/// Numbers from here on do not fit a byte.
+const PAST_A_BYTE: u32 = 256;
+
+/// The fields of the faulty line, with its place among the lines.
+fn faulty_line(bytes: &[u8], fault: plan::Fault) -> Option<(usize, Vec<String>)> {
+    let place = fault.line.checked_sub(1)?;
+    let line = bytes.split(|&byte| byte == b'\n').nth(place)?;
+    let line = std::str::from_utf8(line).ok()?;
+    Some((place, line.split(' ').map(str::to_string).collect()))
+}
+
+/// The switch of a plan at fault with 9.
+fn faulty_switch(bytes: &[u8], fault: plan::Fault) -> Option<u32> {
+    let (_, fields) = faulty_line(bytes, fault).filter(|_| fault.number == 9)?;
+    fields[0].parse().ok()
+}
+
+/// Whether a plan at fault with 5, 8 or 9 would have no fault on that line if the
+/// numbers on it, but for p, were cut to bytes.
+fn sound_if_cut(bytes: &[u8], fault: plan::Fault) -> bool {
+    let Some((place, mut fields)) = faulty_line(bytes, fault) else { return false };
+    if ![5, 8, 9].contains(&fault.number) {
+        return false;
+    }
+    for (at, field) in fields.iter_mut().enumerate() {
+        match field.parse::<u32>() {
+            Ok(number) if at != 1 => *field = (number % PAST_A_BYTE).to_string(),
+            _ => {}
+        }
+    }
+    let mut lines: Vec<&[u8]> = bytes.split(|&byte| byte == b'\n').collect();
+    let cut = fields.join(" ");
+    lines[place] = cut.as_bytes();
+    match plan::read(&lines.join(&b'\n')) {
+        Ok(_) => true,
+        Err(other) => other.line > fault.line,
+    }
+}
+
+const NAMES: [&str; 14] = [
     "every job settled",
     "guess kept",
     "guess kept with mark 1",
@@ -84,6 +144,7 @@ const NAMES: [&str; 13] = [
     "job settled with mark 1 and no height changed",
     "start guess refused at a writer whose stored guess had fallen",
     "report of a guess that had already fallen",
+    "step on a job number of 256 or more that would be a job's if it were cut to a byte",
 ];
 
 /// Whether a writer that this job's guess would meet has a stored report of a

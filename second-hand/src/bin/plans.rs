@@ -264,10 +264,14 @@ fn steps(dice: &mut Dice, draft: &Draft) -> Vec<Step> {
     steps
 }
 
+/// Numbers from here on do not fit a byte, and would be cut to lower ones.
+const PAST_A_BYTE: u32 = 256;
+
 fn bad_job(dice: &mut Dice, jobs: usize) -> u32 {
-    match dice.below(4) {
+    match dice.below(5) {
         0 => jobs as u32 + dice.below(200) as u32,
         1 => i32::MAX as u32,
+        2 => PAST_A_BYTE + dice.below(jobs.max(1)) as u32,
         _ => jobs as u32,
     }
 }
@@ -390,7 +394,10 @@ fn refused_plan(dice: &mut Dice) -> Vec<u8> {
     let mut draft = sound_draft(dice);
     let cells = draft.heights.len() as u32;
     let some_kind = dice.range(1, 6) as u32;
-    let out = cells + dice.pick(&[0, 0, 1, 1000]);
+    let out = match dice.below(5) {
+        0 | 1 => PAST_A_BYTE + dice.below(cells as usize) as u32,
+        _ => cells + dice.pick(&[0, 0, 1, 1000]),
+    };
     match dice.below(9) {
         0 => draft.heights.clear(),
         1 => {
@@ -412,10 +419,16 @@ fn refused_plan(dice: &mut Dice) -> Vec<u8> {
             insert_job(dice, &mut draft, (some_kind, 7, cells));
         }
         5 => insert_job(dice, &mut draft, (some_kind, 7, vec![0, 0])),
+        6 if dice.percent(40) => {
+            let count = kinds::modes(some_kind).map_or(0, <[u32]>::len) as u32;
+            insert_job(dice, &mut draft, (PAST_A_BYTE + some_kind, 7, (0..count).collect()));
+        }
         6 => {
             let kind = dice.pick(&[7, 8, 100, i32::MAX as u32]);
             insert_job(dice, &mut draft, (kind, 7, vec![0]));
         }
+        // 256 and 257 would be cut to 0 and 1.
+        7 if dice.percent(50) => draft.guess = PAST_A_BYTE + dice.below(2) as u32,
         7 => draft.guess = dice.pick(&[2, 3, 10, i32::MAX as u32]),
         _ => {
             let job = dice_job(dice, cells, out);
