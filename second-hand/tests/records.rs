@@ -157,30 +157,91 @@ struct Pair {
     runs: Vec<([i32; 4], [i32; 4])>,
     accepted: [u64; 7],
     refused: [u64; 33],
+    four: Four,
 }
 
-/// A job that is mostly sound. Places not in use have anything in them.
+/// What came up of jobs with four accesses: accepted steps by their number;
+/// reports with mark 1 where the only maybe-write is the fourth access; heights
+/// that a write and a maybe-write in the fourth place changed.
+#[derive(Default, Debug)]
+struct Four {
+    accepted: [u64; 5],
+    marked: u64,
+    written: [u64; 2],
+}
+
+impl Four {
+    /// Counts an accepted step, whatever the number of its job's accesses.
+    fn count(&mut self, before: &Record, after: &Record, number: u8, job: usize, mark: u8) {
+        let held = &before.jobs[job];
+        if held.arity != 4 {
+            return;
+        }
+        self.accepted[usize::from(number)] += 1;
+        let modes = held.accesses.map(|access| access.1);
+        let reports = number == 2 || number == 3;
+        let only_fourth = !modes[..3].contains(&MAYBE) && modes[3] == MAYBE;
+        self.marked += u64::from(reports && mark == 1 && only_fourth);
+        let cell = usize::from(held.accesses[3].0);
+        if before.cells[cell] != after.cells[cell] {
+            assert!(number == 2 || number == 4);
+            self.written[usize::from(modes[3] - WRITE)] += 1;
+        }
+    }
+
+    fn add(&mut self, other: &Four) {
+        for (sum, more) in self.accepted.iter_mut().zip(other.accepted) {
+            *sum += more;
+        }
+        for (sum, more) in self.written.iter_mut().zip(other.written) {
+            *sum += more;
+        }
+        self.marked += other.marked;
+    }
+
+    /// The least that came up of anything.
+    fn least(&self) -> u64 {
+        let all = self.accepted.iter().chain(&self.written);
+        all.copied().min().unwrap_or(0).min(self.marked)
+    }
+}
+
+/// A job that is mostly sound, often of kind 0 and four accesses. Places not in
+/// use have anything in them.
 fn any_job(dice: &mut Dice, cells: u64) -> Job {
-    let kind = if dice.one_in(40) {
-        7
-    } else {
-        dice.below(7) as u8
+    let kind = match dice.below(40) {
+        0 => 7,
+        1..=10 => 0,
+        _ => dice.below(7) as u8,
     };
     let modes = kinds::modes(u32::from(kind));
     let arity = match modes {
         _ if dice.one_in(40) => dice.below(6),
         Some(modes) => modes.len() as u64,
+        None if !dice.one_in(3) => cells.min(4),
         None => 1 + dice.below(4),
     };
-    let mut accesses = [(0, 0); 4].map(|_: (u8, u8)| {
-        let cell = if dice.one_in(60) {
-            cells
-        } else {
-            dice.below(cells)
-        };
+    let mut accesses = [(0, 0); 4];
+    for place in 0..4 {
+        let mut cell = dice.below(cells);
+        // In use mostly one that the job does not have yet, if there is one.
+        let taken = |cell: u64| accesses[..place].iter().any(|&(other, _)| u64::from(other) == cell);
+        while (place as u64) < arity.min(cells) && taken(cell) && !dice.one_in(40) {
+            cell = dice.below(cells);
+        }
+        if dice.one_in(60) {
+            cell = cells;
+        }
         let mode = if dice.one_in(60) { 3 } else { dice.below(3) };
-        (cell as u8, mode as u8)
-    });
+        accesses[place] = (cell as u8, mode as u8);
+    }
+    // The fourth access is often the only maybe-write.
+    if modes.is_none() && arity == 4 && dice.one_in(3) {
+        for access in &mut accesses[..3] {
+            access.1 = access.1.min(WRITE);
+        }
+        accesses[3].1 = MAYBE;
+    }
     if !dice.one_in(40) {
         for (access, mode) in accesses.iter_mut().zip(modes.unwrap_or(&[])) {
             access.1 = *mode as u8;
@@ -214,6 +275,7 @@ impl Pair {
             runs: Vec::new(),
             accepted: [0; 7],
             refused: [0; 33],
+            four: Four::default(),
         }
     }
 
@@ -272,6 +334,7 @@ impl Pair {
         }
         if refusal == 0 {
             self.note(number, job, handed, values, mark);
+            self.four.count(&before, &self.record, number, job, mark);
         }
         self.count(usize::from(number), refusal);
     }
@@ -455,15 +518,17 @@ fn side_by_side() {
     let mut accepted = [0; 7];
     let mut refused = [0; 33];
     let mut finished = 0;
+    let mut four = Four::default();
     for list in 0..700 {
         let pair = match list % 50 {
             0 => one_list(&mut dice, 64, 140, 3000, 300),
             _ => {
                 let inserts = dice.below(14);
-                one_list(&mut dice, 5, inserts, 40 * (inserts + 1), 3)
+                one_list(&mut dice, 6, inserts, 40 * (inserts + 1), 3)
             }
         };
         finished += u64::from(pair.record.ask_batch().finished);
+        four.add(&pair.four);
         for (sum, more) in accepted.iter_mut().zip(pair.accepted) {
             *sum += more;
         }
@@ -476,6 +541,8 @@ fn side_by_side() {
     for number in (2..=18).filter(|&number| number != 3) {
         assert!(refused[number] > 15, "{number}: {refused:?}");
     }
+    println!("side by side, four accesses: {four:?}");
+    assert!(four.least() > 20, "{four:?}");
 }
 
 /// Also the 129th job and the longest chain.
@@ -1176,6 +1243,16 @@ fn others_kept(before: &Record, after: &Record, job: usize) {
     assert_eq!(put_back, *before);
 }
 
+/// R53: the own report of this value has reached each cell that it writes.
+fn all_written(after: &Record, job: usize, value: i32, mark: u8) {
+    let held = after.jobs[job];
+    for &(cell, mode) in &held.accesses[..usize::from(held.arity)] {
+        if mode == WRITE || (mode == MAYBE && mark == 1) {
+            assert_eq!(after.cells[usize::from(cell)], value);
+        }
+    }
+}
+
 fn damage(dice: &mut Dice, record: &Record) -> Record {
     let mut bytes = bytes_of(record);
     let held = u64::from(record.job_count.max(1));
@@ -1210,10 +1287,11 @@ fn damaged_records() {
     let mut dice = Dice(0xDA3A_6ED0_1111_2222);
     let mut in_form = 0;
     let mut accepted = [0; 5];
-    for _ in 0..600 {
+    let mut four = Four::default();
+    for _ in 0..900 {
         let inserts = 1 + dice.below(10);
-        let calls = dice.below(3 * inserts);
-        let sound = one_list(&mut dice, 4, inserts, calls, 1000).record;
+        let calls = dice.below(4 * inserts);
+        let sound = one_list(&mut dice, 6, inserts, calls, 1000).record;
         for _ in 0..12 {
             let record = damage(&mut dice, &sound);
             if !record.in_form() {
@@ -1222,12 +1300,17 @@ fn damaged_records() {
             }
             in_form += 1;
             for job in 0..usize::from(record.job_count) {
-                for number in 0..5 {
+                // Steps 2 and 3 with either mark.
+                for (number, mark) in [(0, 0), (1, 0), (2, 0), (3, 0), (4, 0), (2, 1), (3, 1)] {
                     let mut after = record.clone();
-                    if step(&mut after, number, job, -77, 0) == 0 {
+                    if step(&mut after, number, job, -77, mark) == 0 {
                         others_kept(&record, &after, job);
                         assert!(after.in_form());
                         accepted[usize::from(number)] += 1;
+                        four.count(&record, &after, number, job, mark);
+                        if number == 2 {
+                            all_written(&after, job, -77, mark);
+                        }
                     }
                 }
             }
@@ -1242,6 +1325,8 @@ fn damaged_records() {
     }
     assert!(in_form > 1500, "{in_form}");
     assert!(accepted.iter().all(|&times| times > 80), "{accepted:?}");
+    println!("damaged, four accesses: {four:?}");
+    assert!(four.least() > 10, "{four:?}");
 }
 
 // ---------------------------------------------------------------------------

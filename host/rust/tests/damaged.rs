@@ -1,10 +1,10 @@
-//! Damaged records: bytes of valid records are changed at random, every entry is called on what comes out, and each answer
-//! and the record after it are held against the second hand's (`second_hand::record`). DAMAGED=COUNT sets how many records,
-//! SEED=NUMBER which; it prints what was met (`cargo test --test damaged -- --nocapture`).
+//! Damaged records: bytes of valid records are changed at random, every entry is called on what comes out (and on the valid
+//! ones), and each answer and the record after it are held against the second hand's (`second_hand::record`). DAMAGED=COUNT
+//! sets how many records, SEED=NUMBER which; it prints what was met (`cargo test --test damaged -- --nocapture`).
 
 mod theirs;
 
-use sorghemi::raw::Run;
+use sorghemi::raw::{sorghemi_step_by_value, Run};
 use sorghemi::{Batch, Job, Mode, Record, Report, Step};
 use std::collections::BTreeMap;
 use theirs::Both;
@@ -46,14 +46,9 @@ impl Random {
     /// A job on the cells that inserting mostly takes: of kind 0 with any accesses, or of another kind with its own modes.
     fn job(&mut self, cells: usize) -> Job {
         let mut left: Vec<u8> = (0..cells as u8).collect();
-        let mut cell = || left.swap_remove(self.below(left.len()));
-        let (a, b, c) = match cells {
-            1 => (0, 0, 0),
-            2 => (cell(), cell(), 0),
-            _ => (cell(), cell(), cell()),
-        };
-        let modes = [Mode::Read, Mode::Write, Mode::MaybeWrite];
-        match self.below(8) {
+        let mut cell = || if left.is_empty() { 0 } else { left.swap_remove(self.below(left.len())) };
+        let [a, b, c, d] = [(); 4].map(|()| cell());
+        match self.below(10) {
             0 => Job::set(a, self.height()),
             1 | 2 => Job::shift(a, self.height()),
             3 => Job::spike(a, b, self.below(2000) as i32),
@@ -61,14 +56,29 @@ impl Random {
             5 => Job::mean(a, b, c),
             6 => Job::pair(a, b),
             _ => {
-                let accesses = [a, b, c].map(|cell| (cell, modes[self.below(3)]));
-                Job::outside(&accesses[..1 + self.below(3)])
+                let most = cells.min(4);
+                let count = if self.one_in(3) { 1 + self.below(most) } else { most };
+                Job::outside(&self.accesses([a, b, c, d])[..count])
             }
         }
+    }
+
+    /// Accesses of any mode, but the fourth is mostly a write or a maybe-write, and often the only maybe-write.
+    fn accesses(&mut self, cells: [u8; 4]) -> [(u8, Mode); 4] {
+        let modes = [Mode::Read, Mode::Write, Mode::MaybeWrite];
+        let lists = if self.one_in(2) { [3, 3, 3, 3] } else { [2, 2, 2, 3] };
+        let mut place = 0;
+        cells.map(|cell| {
+            let mode = modes[self.below(lists[place])];
+            place += 1;
+            let more = place == 4 && mode == Mode::Read && !self.one_in(4);
+            (cell, if more { modes[1 + self.below(2)] } else { mode })
+        })
     }
 }
 
 /// A valid record somewhere on its way: some cells and jobs, mostly sealed, after some steps of the chooser and some reports.
+/// Guesses are reported before own runs half of the time, and mostly not settled at once, so that guesses stand on guesses.
 fn valid_record(random: &mut Random) -> Record {
     let cells = if random.one_in(10) { 64 } else { 1 + random.below(6) };
     let heights: Vec<i32> = (0..cells).map(|_| random.height()).collect();
@@ -84,13 +94,14 @@ fn valid_record(random: &mut Random) -> Record {
     let mut out = Vec::new();
     for _ in 0..random.below(3 * jobs + 1) {
         let choice = if random.one_in(3) { None } else { batch.choose().ok() };
-        if let Some(choice) = choice {
+        if let Some(choice) = choice.filter(|choice| choice.step != Step::Commit || random.one_in(4)) {
             let _ = batch.step(choice.step, choice.job, Report::default());
             if choice.step != Step::Commit {
                 out.push((choice.step, choice.job));
             }
         } else if !out.is_empty() {
-            let (start, job) = out.swap_remove(random.below(out.len()));
+            let guess = out.iter().position(|&(start, _)| start == Step::StartSpeculation).filter(|_| random.one_in(2));
+            let (start, job) = out.swap_remove(guess.unwrap_or(random.below(out.len())));
             let step = if start == Step::StartOwn { Step::ReportOwn } else { Step::ReportSpeculation };
             let report = Report { wrote: random.one_in(3) as u8, ..random.report() };
             // A job without mode 2 has mark 0.
@@ -131,7 +142,8 @@ fn damaged(record: &Record, random: &mut Random) -> Record {
     Record::from_bytes(&bytes)
 }
 
-/// A job for the step: mostly one in the state for it, if there is one; else any, and sometimes a number that no job has.
+/// A job for the step: mostly one in the state for it, if there is one, and half of the time one on which it is allowed, if a
+/// few tries find it; else any, and sometimes a number that no job has.
 fn job_for(number: u8, record: &Record, random: &mut Random) -> usize {
     let jobs = record.job_count.clamp(1, 128) as usize;
     let fits = |&j: &usize| match number {
@@ -145,32 +157,96 @@ fn job_for(number: u8, record: &Record, random: &mut Random) -> usize {
     if fitting.is_empty() || random.one_in(4) {
         return random.around(jobs);
     }
-    fitting[random.below(fitting.len())]
+    let allowed = |job| unsafe { sorghemi_step_by_value(*record, number, job, Report::default()) }.refusal == 0;
+    let tries = if random.one_in(2) { 1 } else { 8 };
+    let mut job = fitting[random.below(fitting.len())];
+    for _ in 1..tries {
+        if allowed(job) {
+            break;
+        }
+        job = fitting[random.below(fitting.len())];
+    }
+    job
+}
+
+const STEPS: [&str; 6] = ["step 0", "step 1", "step 2", "step 3", "step 4", "step 5"];
+
+/// What may be met of jobs with four accesses. Each has to come up.
+const FOUR: [&str; 9] = [
+    "step 0 accepted",
+    "step 1 accepted",
+    "step 2 accepted",
+    "step 3 accepted",
+    "step 4 accepted",
+    "mark 1 accepted, the only maybe-write being the fourth access",
+    "a write in the fourth place changed its cell",
+    "a maybe-write in the fourth place changed its cell",
+    "the value for the fourth place was taken from a guess",
+];
+
+/// How often each entry gave each answer, and what was met of jobs with four accesses.
+#[derive(Default)]
+struct Met {
+    answers: BTreeMap<(&'static str, u8), u64>,
+    four: [u64; FOUR.len()],
+}
+
+impl Met {
+    fn answer(&mut self, entry: &'static str, answer: u8) {
+        *self.answers.entry((entry, answer)).or_default() += 1;
+    }
+
+    /// Makes the step in both hands; what it answers and leaves is the same in both, so what is counted of it holds of both.
+    fn step(&mut self, entry: &'static str, both: &mut Both, number: u8, job: usize, report: Report) {
+        let before = both.ours;
+        let answer = both.step(number, job, report);
+        self.answer(entry, answer);
+        if answer == 0 && before.jobs[job].arity == 4 {
+            self.step_of_four(&before, &both.ours, number, job, report);
+        }
+    }
+
+    /// An accepted step on a job with four accesses: what came up of FOUR, by its place there.
+    fn step_of_four(&mut self, before: &Record, after: &Record, number: u8, job: usize, report: Report) {
+        let accesses = before.jobs[job].accesses;
+        let maybe = accesses.map(|access| access.mode == Mode::MaybeWrite as u8);
+        let cell = accesses[3].cell as usize;
+        let changed = before.cells[cell] != after.cells[cell];
+        let reports = number == 2 || number == 3;
+        let met = [
+            (true, number as usize),
+            (reports && report.wrote == 1 && maybe == [false, false, false, true], 5),
+            (changed && accesses[3].mode == Mode::Write as u8, 6),
+            (changed && maybe[3], 7),
+            (number == 1 && after.runs[job].sources[3] != 0, 8),
+        ];
+        for &(_, what) in met.iter().filter(|(did, _)| *did) {
+            self.four[what] += 1;
+        }
+    }
 }
 
 /// Calls every entry on the record, each on a copy of its own, and then some steps one after the other.
-fn try_every_entry(record: &Record, random: &mut Random) -> Vec<(&'static str, u8)> {
+fn try_every_entry(record: &Record, random: &mut Random, met: &mut Met) {
     let cells = record.cell_count.clamp(1, 64) as usize;
     let jobs = record.job_count.clamp(1, 128) as usize;
-    let mut met = Vec::new();
     let mut both = Both::of(record);
-    met.push(("choose", both.choose()));
-    met.push(("ask batch", both.ask_batch()));
-    met.push(("ask cell", both.ask_cell(random.around(cells))));
-    met.push(("ask job", both.ask_job(random.around(jobs))));
-    met.push(("copy out", both.copy_out(random.around(cells + 4), random.around(4))));
-    met.push(("insert", Both::of(record).insert(random.job(cells))));
-    met.push(("seal", Both::of(record).seal(random.below(3) as u8)));
+    met.answer("choose", both.choose());
+    met.answer("ask batch", both.ask_batch());
+    met.answer("ask cell", both.ask_cell(random.around(cells)));
+    met.answer("ask job", both.ask_job(random.around(jobs)));
+    met.answer("copy out", both.copy_out(random.around(cells + 4), random.around(4)));
+    met.answer("insert", Both::of(record).insert(random.job(cells)));
+    met.answer("seal", Both::of(record).seal(random.below(3) as u8));
     for number in 0..6 {
-        let name = ["step 0", "step 1", "step 2", "step 3", "step 4", "step 5"][number as usize];
-        met.push((name, Both::of(record).step(number, job_for(number, record, random), random.report())));
+        let job = job_for(number, record, random);
+        met.step(STEPS[number as usize], &mut Both::of(record), number, job, random.report());
     }
     for _ in 0..4 {
         let number = random.below(5) as u8;
-        let answer = both.step(number, job_for(number, &both.ours, random), random.report());
-        met.push(("a further step", answer));
+        let job = job_for(number, &both.ours, random);
+        met.step("a further step", &mut both, number, job, random.report());
     }
-    met
 }
 
 #[test]
@@ -178,21 +254,28 @@ fn damaged_records_are_refused_or_answered_soundly() {
     let setting = |name: &str, otherwise: u64| std::env::var(name).map_or(otherwise, |text| text.parse().unwrap());
     let (count, seed) = (setting("DAMAGED", 2000), setting("SEED", 1));
     let mut random = Random(seed.wrapping_mul(0x9e3779b97f4a7c15) | 1);
-    let mut met: BTreeMap<(&str, u8), u64> = BTreeMap::new();
+    let mut met = Met::default();
     let mut valid = valid_record(&mut random);
     for n in 0..count {
-        if n % 16 == 0 {
+        if n % 4 == 0 {
             valid = valid_record(&mut random);
+            try_every_entry(&valid, &mut random, &mut met);
         }
         let record = damaged(&valid, &mut random);
-        for answer in try_every_entry(&record, &mut random) {
-            *met.entry(answer).or_default() += 1;
-        }
+        try_every_entry(&record, &mut random, &mut met);
     }
-    println!("{count} damaged records of seed {seed}, every answer and record the second hand's. Answers met:");
-    for ((entry, answer), times) in &met {
+    println!(
+        "{count} damaged records of seed {seed}, and a quarter as many whole ones: every answer and record the second hand's."
+    );
+    println!("Answers met:");
+    for ((entry, answer), times) in &met.answers {
         println!("  {entry} {answer}: {times}");
     }
-    let of = |entry, answer| met.get(&(entry, answer)).copied().unwrap_or(0);
+    println!("Of jobs with four accesses:");
+    for (what, times) in FOUR.iter().zip(met.four) {
+        println!("  {what}: {times}");
+    }
+    let of = |entry, answer| met.answers.get(&(entry, answer)).copied().unwrap_or(0);
     assert!(of("ask batch", 32) > count / 10 && of("ask batch", 0) > count / 10, "both sorts of records have to come up");
+    assert!(met.four.iter().all(|&times| times > 0), "something never came up with four accesses: {:?}", met.four);
 }
