@@ -1,4 +1,4 @@
--- An insert keeps the invariant, at whatever moment it comes. "The job is added as the last."
+-- An insert keeps the invariant, at whatever moment it comes: the job is added as the last (R6).
 use Prim.Native.Nat.{ℕ, suc, _≤_, _<_}
 use native.Mathlib.Omega.{arith}
 use mathlib.Core.Path.{_≡_, sym, _∙_}

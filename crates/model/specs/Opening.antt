@@ -1,4 +1,4 @@
--- The first state: "the batch that an accepted opening handed back, unsealed and without jobs."
+-- The first state: that of the batch which an accepted opening handed back, unsealed and without jobs (R5).
 use Prim.Native.Nat.{ℕ}
 use native.Mathlib.Omega.{arith}
 use mathlib.Core.Path.{_≡_, sym, ap, _∙_}

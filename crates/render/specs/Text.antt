@@ -1,6 +1,5 @@
 -- The bytes of numbers and of the output's lines.
--- Document 01, "The program `gaugebatch`": "Fields have one space between, lines end in line feed, values are in base
--- ten without leading zeros or minus zero".
+-- R152: one space between fields, a line feed at the end, and numbers in base ten as R143 reads them.
 use Prim.Native.Nat.{ℕ, zero, suc, _+_, _<_, _≤_, _/_, _%_}
 use native.Mathlib.Omega.{arith}
 use mathlib.Core.Bool.{true, false}
@@ -64,7 +63,7 @@ abbrev pub faultNames : List ℕ
 faultNames = lineOf ((102 ∷ 97 ∷ 117 ∷ 108 ∷ 116 ∷ []) ∷ (108 ∷ 105 ∷ 110 ∷ 101 ∷ []) ∷ [])
 
 -- What a faulty plan gives: a line of names and a line of values, as in the format's other parts.
--- Document 01: "the only output is then `fault line` and the number with its line, counted from 1".
+-- R150: `fault line`, and under it the number and its line.
 abbrev pub faultLines : ℕ → ℕ → List ℕ
 faultLines number line = faultNames ++ pairLine number line
 
