@@ -16,8 +16,8 @@ use Rattle.engine.specs.Steps.{startedOwn, startedSpeculation, reportedOwn, rep
 use Rattle.engine.specs.Perform.{perform}
 use Rattle.model.specs.State.{Invariant}
 use Rattle.model.specs.Opening.{opening-invariant}
-use Rattle.theorem.specs.Ledger.{Ledger, emptyLedger, enter}
-use Rattle.theorem.specs.Trace.{eventOf, eventsOf, batchAfter, recorded, ledgerAfter}
+use Rattle.claims.specs.Ledger.{Ledger, emptyLedger, enter}
+use Rattle.claims.specs.Trace.{eventOf, eventsOf, batchAfter, recorded, ledgerAfter}
 use Rattle.theorem.specs.After.{accepted-keeps, refused-stays, opened-faithful}
 use Rattle.theorem.specs.View.{progressFrom, speculationOf, stateOf}
 use Rattle.theorem.specs.Shaped.{ShapedEntry, nothing-shaped, present-shaped, speculative-shaped, struck-shaped}

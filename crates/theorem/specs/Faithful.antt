@@ -22,8 +22,8 @@ use Rattle.engine.specs.declared.Run.{Run}
 use Rattle.engine.specs.declared.Batch.{Batch}
 use Rattle.engine.specs.Record.{runAt, snapshotOf}
 use Rattle.engine.specs.Form.{countsOut, statesOut, sourceLate, originsOut, jobOut, inForm}
-use Rattle.theorem.specs.Ledger.{Report, Guess, GuessEntry, never, entered, reported, struck, Entry, noEntry, Ledger}
-use Rattle.theorem.specs.Ledger.{isSome, isCounted, countedMark, ownIsOut, guessPhase, guessBypassed, guessSource, switchIsOn, snapshotOfLedger}
+use Rattle.claims.specs.Ledger.{Report, Guess, GuessEntry, never, entered, reported, struck, Entry, noEntry, Ledger}
+use Rattle.claims.specs.Ledger.{isSome, isCounted, countedMark, ownIsOut, guessPhase, guessBypassed, guessSource, switchIsOn, snapshotOfLedger}
 use Rattle.theorem.specs.SameRefusal.{withJobs}
 
 -- A job whose own run was started has no guess any more: none was started, or it was struck out.

@@ -17,8 +17,8 @@ use Rattle.engine.specs.declared.Batch.{Batch}
 use Rattle.model.specs.Cases.{below-or, none-some}
 use Rattle.model.specs.Column.{applied}
 use Rattle.model.specs.State.{committed, effect, effects, before, Right}
-use Rattle.theorem.specs.Ledger.{Counted, Entry, Ledger}
-use Rattle.theorem.specs.Replay.{turn, replay, leftFor}
+use Rattle.claims.specs.Ledger.{Counted, Entry, Ledger}
+use Rattle.claims.specs.Replay.{turn, replay, leftFor}
 use Rattle.theorem.specs.View.{useOf, progressFrom, progressOf, stateOf, place-named, used-below}
 use Rattle.theorem.specs.Written.{written-cell}
 use Rattle.theorem.specs.Shaped.{counted-shaped, shaped-present}

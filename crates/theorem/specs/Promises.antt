@@ -24,15 +24,15 @@ use Rattle.engine.specs.Form.{inForm}
 use Rattle.engine.specs.Opening.{inserted, sealedWith}
 use Rattle.engine.specs.Steps.{startedOwn, startedSpeculation, reportedOwn, reportedSpeculation, committedBy}
 use Rattle.engine.specs.Perform.{perform}
-use Rattle.theorem.specs.Ledger.{Counted, Entry, Ledger, isSome, isCounted, ownIsOut, guessPhase, snapshotOfLedger}
-use Rattle.theorem.specs.Demand3.{judged, own-start, own-report, speculation-report, commit-step, Accepted}
+use Rattle.claims.specs.Ledger.{Counted, Entry, Ledger, isSome, isCounted, ownIsOut, guessPhase, snapshotOfLedger}
+use Rattle.claims.specs.Demand3.{judged, own-start, own-report, speculation-report, commit-step, Accepted}
 use Rattle.theorem.specs.SameRefusal.{same-refusal}
 use Rattle.theorem.specs.Faithful.{Stage, untouched, guess-out, guess-reported, own-out, own-counted, guess-counted, Faithful}
 use Rattle.theorem.specs.Faithful.{stage-committed, stage-steps, faithful-form, same-snapshot}
 use Rattle.theorem.specs.Update.{at-or}
 
 -- A call's refusal on the record: 32 for a record out of form, and else what the rules say.
-performed-refusal : (b : Batch) (call : Call) → perform b call .refusal ≡ cond (inForm b) (refusalOf (snapshotOf b) call) 32
+pub performed-refusal : (b : Batch) (call : Call) → perform b call .refusal ≡ cond (inForm b) (refusalOf (snapshotOf b) call) 32
 unfolding perform inserted sealedWith startedOwn startedSpeculation reportedOwn reportedSpeculation committedBy refusalOf
 performed-refusal b (insert job) = refl
 performed-refusal b (seal switch) = refl

@@ -31,8 +31,8 @@ use Rattle.model.specs.State.{names, idle, running, committed, isCommitted, Sta
 use Rattle.model.specs.Actions.{discard, own-start-keeps, speculation-start-keeps, own-report-keeps}
 use Rattle.model.specs.Actions.{speculation-report-keeps, commit-keeps}
 use Rattle.model.specs.Insert.{Blank, insert-keeps}
-use Rattle.theorem.specs.Ledger.{Report, entered, Ledger, isSome, struckOut, withReport, ownCounted}
-use Rattle.theorem.specs.Ledger.{guessCounted, snapshotOfLedger, enter}
+use Rattle.claims.specs.Ledger.{Report, entered, Ledger, isSome, struckOut, withReport, ownCounted}
+use Rattle.claims.specs.Ledger.{guessCounted, snapshotOfLedger, enter}
 use Rattle.theorem.specs.Faithful.{Faithful}
 use Rattle.theorem.specs.Held.{guess-stored}
 use Rattle.theorem.specs.Promises.{exact-refusal}

@@ -22,8 +22,8 @@ use Rattle.model.specs.Cases.{below-or, none-some}
 use Rattle.model.specs.State.{Use, absent, reads, writes, maybe, names, usesConflict}
 use Rattle.model.specs.State.{Origin, discarded, originOf, Ready, Invalid, bypassed-wrote, source-discarded, source-invalid}
 use Rattle.model.specs.StateLaws.{written-named}
-use Rattle.theorem.specs.Ledger.{GuessEntry, never, entered, reported, struck, Ledger}
-use Rattle.theorem.specs.Ledger.{isCounted, countedMark, guessPhase, guessBypassed, guessSource, snapshotOfLedger}
+use Rattle.claims.specs.Ledger.{GuessEntry, never, entered, reported, struck, Ledger}
+use Rattle.claims.specs.Ledger.{isCounted, countedMark, guessPhase, guessBypassed, guessSource, snapshotOfLedger}
 use Rattle.theorem.specs.Faithful.{Faithful}
 use Rattle.theorem.specs.View.{useOfMode, useOf, originFor, speculationOf, stateOf, progress-committed}
 use Rattle.theorem.specs.View.{progress-marked, mode-may-write}

@@ -23,7 +23,7 @@ use Rattle.engine.specs.declared.Batch.{Batch}
 use Rattle.engine.specs.Record.{runAt, snapshotOf}
 use Rattle.engine.specs.Steps.{reportedRun, ownValues, speculativeValues, sourcesNow, withOwnStarted, withSpeculationStarted, withOwnReported, withSpeculationReported, withCommitted}
 use Rattle.engine.specs.Steps.{startOwnRefusal, startSpeculationRefusal, reportOwnRefusal, reportSpeculationRefusal, commitRefusal}
-use Rattle.theorem.specs.Ledger.{Guess, Ledger, snapshotOfLedger, enter}
+use Rattle.claims.specs.Ledger.{Guess, Ledger, snapshotOfLedger, enter}
 use Rattle.theorem.specs.Faithful.{Faithful, same-snapshot}
 use Rattle.theorem.specs.Kept.{start-own-kept, start-speculation-kept, report-own-kept, report-speculation-kept, commit-kept}
 use Rattle.theorem.specs.SameRefusal.{source-same, bypassed-same}

@@ -23,8 +23,8 @@ use Rattle.engine.specs.Steps.{speculativeAt, speculativeValues}
 use Rattle.model.specs.State.{Use, absent, reads, writes, maybe, names, isCommitted, reportAt}
 use Rattle.model.specs.StateLaws.{writes-named}
 use Rattle.model.specs.Walk.{stopAt, sourceBelow, firstAfter, source-met, HandedFrom, Gathered}
-use Rattle.theorem.specs.Ledger.{Report, Guess, GuessEntry, never, entered, reported, struck, Ledger}
-use Rattle.theorem.specs.Ledger.{isCounted, guessPhase, snapshotOfLedger}
+use Rattle.claims.specs.Ledger.{Report, Guess, GuessEntry, never, entered, reported, struck, Ledger}
+use Rattle.claims.specs.Ledger.{isCounted, guessPhase, snapshotOfLedger}
 use Rattle.theorem.specs.Faithful.{Faithful}
 use Rattle.theorem.specs.Held.{guess-stored}
 use Rattle.theorem.specs.StepAgreement.{sources-agree}

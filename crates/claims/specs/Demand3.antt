@@ -1,4 +1,4 @@
--- Demand 3, stated. (specs/Theorem.antt proves it; specs/SameEnd.antt has its consequence for two lists.)
+-- Demand 3: what is claimed of every list of calls. (Proved as `demand3`.)
 use Prim.Native.Nat.{ℕ, _<_, _≤_}
 use mathlib.Core.Bool.{true, false}
 use mathlib.Core.List.{List}
@@ -14,9 +14,9 @@ use Rattle.engine.specs.declared.Batch.{Batch}
 use Rattle.engine.specs.Ask.{askedCell, askedJob}
 use Rattle.engine.specs.Opening.{opened}
 use Rattle.engine.specs.Perform.{perform}
-use Rattle.theorem.specs.Ledger.{Ledger, Counted, emptyLedger, snapshotOfLedger, isSome}
-use Rattle.theorem.specs.Replay.{replay, leftFor}
-use Rattle.theorem.specs.Trace.{batchAfter, eventsOf, ledgerAfter}
+use Rattle.claims.specs.Ledger.{Ledger, Counted, snapshotOfLedger, isSome}
+use Rattle.claims.specs.Replay.{replay, leftFor}
+use Rattle.claims.specs.Trace.{batchOf, ledgerOf}
 
 -- "Whether document 01 allows a call is judged from the ledger and the calls before it, never from the batch record."
 abbrev pub judged : Ledger → Call → ℕ
@@ -57,5 +57,4 @@ pub record Demand3 (b : Batch) (l : Ledger) : Type 0 where
 abbrev pub Demand3Statement : Type 0
 Demand3Statement =
     (heights : List ℤ) (calls : List Call) → opened heights .refusal ≡ 0
-    → Demand3 (batchAfter (opened heights .batch) calls)
-    (ledgerAfter (emptyLedger heights) (eventsOf (opened heights .batch) calls))
+    → Demand3 (batchOf heights calls) (ledgerOf heights calls)

@@ -5,8 +5,9 @@ use lib.Dec.{eqb}
 use lib.IntN.{ℤ}
 use Rattle.rules.specs.Call.{Call}
 use Rattle.engine.specs.declared.Batch.{Batch}
+use Rattle.engine.specs.Opening.{opened}
 use Rattle.engine.specs.Perform.{perform}
-use Rattle.theorem.specs.Ledger.{Ledger, enter}
+use Rattle.claims.specs.Ledger.{Ledger, emptyLedger, enter}
 
 -- What a host sees of a call: its arguments, whether it was accepted, and the values that a start handed out.
 pub record Event : Type 0 where
@@ -33,3 +34,10 @@ recorded l e = cond (e .accepted) (enter l (e .call) (e .handed)) l
 unfoldable pub ledgerAfter : Ledger → List Event → Ledger
 ledgerAfter l [] = l
 ledgerAfter l (e ∷ events) = ledgerAfter (recorded l e) events
+
+-- The batch and the ledger that a list of calls leads to from an opening with the heights.
+abbrev pub batchOf : List ℤ → List Call → Batch
+batchOf heights calls = batchAfter (opened heights .batch) calls
+
+abbrev pub ledgerOf : List ℤ → List Call → Ledger
+ledgerOf heights calls = ledgerAfter (emptyLedger heights) (eventsOf (opened heights .batch) calls)
