@@ -1,4 +1,4 @@
--- What the chooser answers, held against the steps themselves. (Proved as `chooser`.)
+-- R63: what the chooser answers, held against the steps themselves. (Proved as `chooser`.)
 use Prim.Native.Nat.{ℕ}
 use mathlib.Core.Path.{_≡_}
 use Rattle.rules.specs.Call.{startOwn, startSpeculation, commit}

@@ -1,4 +1,4 @@
--- A consequence of demand 3 for two lists of calls: where the reports follow fixed rules, the end does not depend on the
+-- R176, a consequence of demand 3 for two lists of calls: where the reports follow fixed rules, the end does not depend on the
 -- order of the steps, on what was guessed or on whether guessing was on. (Proved as `same-end`.)
 use Prim.Native.Nat.{ℕ, _<_}
 use mathlib.Core.Bool.{true}

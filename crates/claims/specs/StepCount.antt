@@ -1,4 +1,4 @@
--- The ledger's number of steps is that of the accepted steps. (Proved as `steps-counted`.)
+-- R163: the ledger's number of steps is that of the accepted steps. (Proved as `steps-counted`.)
 -- Demand 3 bounds what the ledger holds; this says that what it holds is the number meant, counted again from the events.
 use Prim.Native.Nat.{ℕ, suc, _≤_}
 use mathlib.Core.Bool.{Bool, false, cond, _&&_}

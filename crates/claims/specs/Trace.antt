@@ -1,4 +1,4 @@
--- A list of calls, performed on the record one after the other, and what it enters into the ledger.
+-- R160: a list of calls, performed on the record one after the other, and what it enters into the ledger.
 use mathlib.Core.Bool.{Bool, cond}
 use mathlib.Core.List.{List, [], _∷_}
 use lib.Dec.{eqb}
@@ -18,7 +18,7 @@ pub record Event : Type 0 where
 abbrev pub eventOf : Batch → Call → Event
 eventOf b call = record { call = call; accepted = eqb (perform b call .refusal) 0; handed = perform b call .handed }
 
--- "Each call gets the batch as the call before left it."
+-- Each call gets the batch as the call before left it.
 unfoldable pub eventsOf : Batch → List Call → List Event
 eventsOf b [] = []
 eventsOf b (call ∷ calls) = eventOf b call ∷ eventsOf (perform b call .batch) calls
@@ -27,7 +27,7 @@ unfoldable pub batchAfter : Batch → List Call → Batch
 batchAfter b [] = b
 batchAfter b (call ∷ calls) = batchAfter (perform b call .batch) calls
 
--- "Refused: nothing is entered."
+-- R162: a refused call enters nothing.
 abbrev pub recorded : Ledger → Event → Ledger
 recorded l e = cond (e .accepted) (enter l (e .call) (e .handed)) l
 

@@ -37,7 +37,7 @@ accepted-keeps agree (reportOwn j values wrote) e = rw e (own-reported-kept agre
 accepted-keeps agree (reportSpeculation j values wrote) e = rw e (speculation-reported-kept agree j values wrote _ e)
 accepted-keeps agree (commit j) e = rw e (committed-kept agree j _ e)
 
--- "A refusal changes nothing."
+-- A refusal changes nothing (R81).
 pub refused-stays : (b : Batch) (call : Call) → eqb (perform b call .refusal) 0 ≡ false → perform b call .batch ≡ b
 unfolding perform inserted sealedWith startedOwn startedSpeculation reportedOwn reportedSpeculation committedBy
 refused-stays b (insert job) e = rw e

@@ -31,8 +31,7 @@ pub data GuessGone : GuessEntry → ℕ → Type 0 where
   never-started : GuessGone never 0
   struck-out : GuessGone struck 3
 
--- The record's run was handed these values, and holds this report: "Values reported for cells not written are ignored
--- and the handed ones stored."
+-- The record's run was handed these values, and holds this report, stored by R34.
 pub record Stored (job : Job) (run : Run) (handed : List ℤ) (r : Report) : Type 0 where
   pub handed-is : run .handed ≡ handed
   pub reported-is : run .reported ≡ storedValues job handed (r .values) (r .wrote)

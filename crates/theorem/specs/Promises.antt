@@ -53,7 +53,7 @@ stage-mark (own-counted g stored s) k e = cc
 stage-mark (guess-counted stored) k e = cc
 
 module _ {b : Batch} {l : Ledger} (agree : Faithful b l) where
-  -- Each call is accepted exactly where document 01 allows it, and refused with its number.
+  -- R170: each call is accepted exactly where the rules allow it, and else refused with their number.
   pub exact-refusal : (call : Call) → perform b call .refusal ≡ judged l call
   exact-refusal call =
       performed-refusal b call

@@ -12,7 +12,7 @@ use Rattle.theorem.specs.Outcome.{cells-are-replayed, handed-is-left}
 abbrev pub told : ℤ → CellAnswer
 told height = record { refusal = 0; height = height }
 
--- For every accepted opening and every list of calls: each call is accepted exactly where document 01 allows it, no job
+-- For every accepted opening and every list of calls: each call is accepted exactly where the rules allow it, no job
 -- has more than four steps, some step is accepted while a job of a sealed batch is unsettled, the cells are those of the
 -- insertion-order run, each counted run was handed what the jobs before it left, and the settled jobs and their marks
 -- are those of the counted reports.
