@@ -8,7 +8,7 @@ use lib.Dec.{eqb, leb, ltb}
 use lib.ListN.{length, take, drop, length-drop}
 use lib.Seq.{paste, take-all, drop-length, drop-drop}
 use borrow.Author.Tests.{ltb-false, leb-false}
-use Rattle.laws.specs.Search.{any-fails, any-absent, and-left, and-right, not-true}
+use Rattle.laws.specs.SearchLaws.{any-fails, any-absent, and-left, and-right, not-true}
 use Rattle.engine.specs.declared.Batch.{Batch}
 use Rattle.engine.specs.Record.{committedAt}
 use Rattle.engine.specs.FormLaws.{form-counts}

@@ -7,7 +7,7 @@ use mathlib.Core.Path.{_≡_, refl}
 use lib.Dec.{leb}
 use lib.IntN.{ℤ}
 use borrow.Author.Tests.{leb-false}
-use Rattle.laws.specs.Search.{if-or}
+use Rattle.laws.specs.SearchLaws.{if-or}
 use Rattle.laws.specs.Refusal.{Refusal, when, firstOf}
 use Rattle.dependence.specs.declared.Job.{Job}
 use Rattle.admission.specs.Admission.{jobRefusals}

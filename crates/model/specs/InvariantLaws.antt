@@ -4,7 +4,7 @@ use native.Mathlib.Omega.{arith}
 use mathlib.Core.Path.{_≡_, _∙_}
 use mathlib.Core.Option.{none, some}
 use mathlib.Core.Bool.{true}
-use Rattle.laws.specs.Search.{if-or}
+use Rattle.laws.specs.SearchLaws.{if-or}
 use Rattle.model.specs.Cases.{at-or}
 use Rattle.model.specs.Column.{after-quiet}
 use Rattle.model.specs.State.{names, mayWrite, isCommitted, Origin, originOf, State, effects, before}

@@ -5,7 +5,7 @@ use mathlib.Core.Path.{_≡_, refl, _∙_}
 use mathlib.Core.Option.{Option, none, some}
 use mathlib.Core.Bool.{Bool, true, false}
 use lib.IntN.{ℤ}
-use Rattle.laws.specs.Search.{clash}
+use Rattle.laws.specs.SearchLaws.{clash}
 use Rattle.model.specs.Cases.{at-or, none-some}
 use Rattle.model.specs.State.{Use, absent, reads, writes, maybe, names, mayWrite, isCommitted, Origin, reportAt}
 use Rattle.model.specs.State.{State, Open, Bypass, Source, forwarded, present, Invariant}

@@ -9,7 +9,7 @@ use lib.Dec.{eqb}
 use lib.IntN.{ℤ, pos}
 use lib.ListN.{length, getD, drop, replicate, length-append, length-drop, length-replicate}
 use borrow.Author.Tests.{eqb-true, eqb-false, ltb-false}
-use Rattle.laws.specs.Search.{if-or, or-left, or-right}
+use Rattle.laws.specs.SearchLaws.{if-or, or-left, or-right}
 use Rattle.dependence.specs.declared.Job.{Job}
 use Rattle.dependence.specs.Job.{blankJob}
 use Rattle.jobset.specs.JobSetLaws.{has-empty}

@@ -12,8 +12,10 @@ use lib.IntN.{ℤ}
 use lib.ListN.{length, set, length-set}
 use lib.Seq.{getD-set-other}
 use borrow.Author.Tests.{ltb-false, leb-false}
-use Rattle.laws.specs.Fold.{flag, fold-keeps}
-use Rattle.laws.specs.Refusal.{Refusal, Passed, Numbered, passed, accepted}
+use Rattle.laws.specs.Fold.{flag}
+use Rattle.laws.specs.FoldLaws.{fold-keeps}
+use Rattle.laws.specs.Refusal.{Refusal}
+use Rattle.laws.specs.RefusalLaws.{Passed, Numbered, passed, accepted}
 use Rattle.dependence.specs.declared.Job.{Job}
 use Rattle.dependence.specs.Job.{noJob}
 use Rattle.admission.specs.Admission.{jobRefusal, jobRefusals}

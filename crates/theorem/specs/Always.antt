@@ -7,7 +7,7 @@ use lib.Dec.{eqb}
 use lib.IntN.{ℤ, pos}
 use lib.ListN.{length, drop, replicate}
 use borrow.Author.Tests.{eqb-true}
-use Rattle.laws.specs.Search.{if-or}
+use Rattle.laws.specs.SearchLaws.{if-or}
 use Rattle.rules.specs.Values.{valueAt}
 use Rattle.rules.specs.Call.{Call, insert, seal, startOwn, startSpeculation, reportOwn, reportSpeculation, commit}
 use Rattle.engine.specs.declared.Batch.{Batch}

@@ -9,7 +9,7 @@ use lib.Dec.{eqb}
 use lib.IntN.{ℤ}
 use lib.ListN.{length, getD}
 use borrow.Author.Tests.{ne-eqb, le-ltb}
-use Rattle.laws.specs.Search.{any-absent}
+use Rattle.laws.specs.SearchLaws.{any-absent}
 use Rattle.laws.specs.Fold.{flag}
 use Rattle.dependence.specs.declared.Job.{Job}
 use Rattle.dependence.specs.Job.{jobAt}

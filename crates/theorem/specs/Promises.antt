@@ -9,8 +9,8 @@ use lib.Dec.{leb}
 use lib.IntN.{pos}
 use lib.ListN.{replicate}
 use borrow.Author.Tests.{lt-leb}
-use Rattle.laws.specs.Search.{any-absent, if-or, clash}
-use Rattle.laws.specs.Refusal.{Passed, accepted}
+use Rattle.laws.specs.SearchLaws.{any-absent, if-or, clash}
+use Rattle.laws.specs.RefusalLaws.{Passed, accepted}
 use Rattle.dependence.specs.declared.Job.{Job}
 use Rattle.dependence.specs.Job.{jobAt}
 use Rattle.rules.specs.Snapshot.{Snapshot, isOut, isStored, isLive}

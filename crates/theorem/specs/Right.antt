@@ -10,8 +10,8 @@ use lib.Dec.{eqb, leb}
 use lib.IntN.{ℤ}
 use lib.ListN.{length}
 use borrow.Author.Tests.{leb-false, not-false}
-use Rattle.laws.specs.Search.{clash, or-left, or-right}
-use Rattle.laws.specs.Refusal.{Passed, Numbered, passed}
+use Rattle.laws.specs.SearchLaws.{clash, or-left, or-right}
+use Rattle.laws.specs.RefusalLaws.{Passed, Numbered, passed}
 use Rattle.dependence.specs.declared.Job.{Job}
 use Rattle.dependence.specs.Job.{inUse, accessAt, jobAt}
 use Rattle.admission.specs.AdmissionLaws.{admitted-cell, admitted-distinct}

@@ -8,8 +8,9 @@ use mathlib.Core.Path.{_≡_, refl, sym, ap, _∙_}
 use lib.IntN.{ℤ}
 use lib.ListN.{getD}
 use borrow.Author.Tests.{ne-eqb}
-use Rattle.laws.specs.Search.{anyBelow, any-found, any-fails, clash, or-true, not-true}
-use Rattle.laws.specs.Fold.{upTo-at}
+use Rattle.laws.specs.Search.{anyBelow}
+use Rattle.laws.specs.SearchLaws.{any-found, any-fails, clash, or-true, not-true}
+use Rattle.laws.specs.FoldLaws.{upTo-at}
 use Rattle.dependence.specs.declared.Job.{Job}
 use Rattle.dependence.specs.Job.{isRead, inUse, accessAt}
 use Rattle.dependence.specs.Conflict.{conflicts}

@@ -7,7 +7,7 @@ use mathlib.Core.Option.{Option, none, some}
 use mathlib.Core.Path.{_≡_, refl, sym, ap, _∙_}
 use lib.IntN.{ℤ}
 use lib.ListN.{length}
-use Rattle.laws.specs.Search.{clash}
+use Rattle.laws.specs.SearchLaws.{clash}
 use Rattle.dependence.specs.declared.Job.{Job}
 use Rattle.rules.specs.Values.{valueAt, presentValues, writeBack}
 use Rattle.rules.specs.Call.{Call, insert, seal, startOwn, startSpeculation, reportOwn, reportSpeculation, commit}

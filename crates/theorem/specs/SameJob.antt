@@ -7,7 +7,7 @@ use lib.Dec.{eqb, leb}
 use lib.IntN.{ℤ}
 use lib.ListN.{set}
 use borrow.Author.Tests.{leb-false}
-use Rattle.laws.specs.Search.{if-or, not-true}
+use Rattle.laws.specs.SearchLaws.{if-or, not-true}
 use Rattle.laws.specs.Fold.{foldBelow}
 use Rattle.dependence.specs.declared.Access.{Access}
 use Rattle.dependence.specs.declared.Job.{Job}

@@ -8,7 +8,7 @@ use lib.Dec.{ltb, leb}
 use lib.IntN.{ℤ}
 use lib.ListN.{length, getD}
 use borrow.Author.Tests.{le-ltb, ltb-false, leb-false, le-leb}
-use Rattle.laws.specs.Search.{or-left}
+use Rattle.laws.specs.SearchLaws.{or-left}
 use Rattle.dependence.specs.declared.Job.{Job}
 use Rattle.dependence.specs.Job.{jobAt, inUse}
 use Rattle.admission.specs.AdmissionLaws.{admitted-arity}

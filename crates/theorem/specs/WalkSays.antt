@@ -8,7 +8,7 @@ use mathlib.Core.Path.{_≡_, refl, sym, ap, _∙_}
 use lib.Dec.{eqb}
 use lib.IntN.{ℤ}
 use borrow.Author.Tests.{eq-eqb, ne-eqb, eqb-true, le-leb, lt-ltb, not-false}
-use Rattle.laws.specs.Search.{any-find, any-found, any-fails, each-of-four, if-or, clash, and-left, and-right, or-left}
+use Rattle.laws.specs.SearchLaws.{any-find, any-found, any-fails, each-of-four, if-or, clash, and-left, and-right, or-left}
 use Rattle.dependence.specs.declared.Job.{Job}
 use Rattle.dependence.specs.Job.{inUse, accessAt, jobAt}
 use Rattle.admission.specs.AdmissionLaws.{admitted-distinct}
