@@ -20,7 +20,7 @@ use Rattle.engine.specs.Opening.{fresh, padded, openRefused, opened, inserted, 
 use Rattle.engine.specs.Steps.{startedOwn, startedSpeculation, reportedOwn, reportedSpeculation, committedBy}
 use Rattle.engine.specs.Perform.{perform}
 use Rattle.claims.specs.Ledger.{Ledger, noEntry, emptyLedger, enter}
-use Rattle.claims.specs.Trace.{eventOf, eventsOf, batchAfter, recorded, ledgerAfter}
+use Rattle.claims.specs.Trace.{eventOf, eventsOf, batchAfter, recorded, ledgerAfter, batchOf, ledgerOf}
 use Rattle.theorem.specs.Faithful.{untouched, FaithfulJob, Faithful}
 use Rattle.theorem.specs.Agreement.{moved, blank-job, inserted-kept, sealed-kept}
 use Rattle.theorem.specs.StepAgreement.{own-started-kept, speculation-started-kept, own-reported-kept, speculation-reported-kept, committed-kept}
@@ -140,6 +140,5 @@ opened-faithful heights e =
 
 -- From an accepted opening, whatever is called.
 pub faithful-always : (heights : List ℤ) (calls : List Call) → opened heights .refusal ≡ 0
-    → Faithful (batchAfter (opened heights .batch) calls)
-    (ledgerAfter (emptyLedger heights) (eventsOf (opened heights .batch) calls))
+    → Faithful (batchOf heights calls) (ledgerOf heights calls)
 faithful-always heights calls e = faithful-after (opened-faithful heights e) calls
