@@ -9,7 +9,8 @@ use lib.ListN.{length, length-append}
 use lib.Seq.{length-take-le}
 use lib.Signed.{mag}
 use Rattle.io.specs.Counts.{Counts}
-use Rattle.render.specs.Put.{Put, put-room}
+use Rattle.render.specs.Put.{Put}
+use Rattle.render.specs.PutLaws.{put-room}
 use Rattle.render.specs.Text.{tripleLine, heightLine, faultLines}
 use Rattle.render.specs.Length.{decimal-length, height-length, triple-takes, height-line-takes, fault-takes}
 use Rattle.engine.specs.declared.Batch.{Batch}

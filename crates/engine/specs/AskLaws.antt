@@ -8,13 +8,13 @@ use lib.Dec.{eqb, leb, ltb}
 use lib.ListN.{length, take, drop, length-drop}
 use lib.Seq.{paste, take-all, drop-length, drop-drop}
 use borrow.Author.Tests.{ltb-false, leb-false}
-use Rattle.laws.specs.Search.{any-fails, any-absent, and-left, and-right, not-true}
+use Rattle.laws.specs.SearchLaws.{if-or, any-fails, any-absent, and-left, and-right, not-true}
 use Rattle.engine.specs.declared.Batch.{Batch}
 use Rattle.engine.specs.Record.{committedAt}
 use Rattle.engine.specs.FormLaws.{form-counts}
 use Rattle.engine.specs.OpeningLaws.{allowed-form, allowed-tests, next-passed}
 use Rattle.engine.specs.Ask.{cellTests, cellRefusal, jobAskTests, jobAskRefusal, copyTests, copyAnswer}
-use Rattle.engine.specs.Ask.{uncommittedAt, anyUncommitted, isFinished}
+use Rattle.engine.specs.Ask.{shownJob, askedJob, uncommittedAt, anyUncommitted, isFinished}
 
 -- A cell that is told of is a place of the array, and so is a job that is shown. (`r` is what a call returned.)
 pub cell-place : (b : Batch) (x : ℕ) {r : ℕ} → r ≡ cellRefusal b x → r ≡ 0 → x < 64
@@ -57,6 +57,14 @@ part-paste d s at n h =
     let whole : take (length d - at) (drop at d) ≡ drop at d = take-all (length d - at) (drop at d) fits in
     let none : drop (length d - at) (drop at d) ≡ [] = rw (← length-drop at d) (drop-length (drop at d)) in
     simp (whole, none, drop-drop, append-nil, append-assoc)
+
+-- R57: a job that is not settled has no mark, as asked for, whatever its guess has stored.
+pub unsettled-unmarked : (b : Batch) (j : ℕ) → askedJob b j .committed ≡ 0 → askedJob b j .wrote ≡ 0
+unfolding askedJob shownJob
+unsettled-unmarked b j =
+    if-or (eqb (jobAskRefusal b j) 0)
+    (λ shown. rw shown (λ unsettled. rw unsettled))
+    (λ refused. rw refused (λ unsettled. refl))
 
 -- A finished batch is sealed, and each of its jobs is settled.
 pub record Finished (b : Batch) : Type 0 where

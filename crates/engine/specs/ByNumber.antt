@@ -1,4 +1,4 @@
--- The steps by their numbers. Document 01: "Each step is an entry of its own; the step numbers serve plans and the chooser."
+-- R50: the steps by their numbers, for plans and for hosts that take steps from the chooser.
 use Prim.Native.Nat.{ℕ}
 use mathlib.Core.Bool.{cond}
 use mathlib.Core.List.{List}
@@ -18,7 +18,7 @@ use Rattle.engine.specs.Perform.{perform}
 abbrev pub withoutValues : Answer → Started
 withoutValues a = record { refusal = a .refusal; handed = replicate 4 (pos 0); batch = a .batch }
 
--- "A step above 4 gives 21", on a record in form.
+-- R121: a number above 4 is no step: 21, on a record in form.
 abbrev pub noSuchStep : Batch → Started
 noSuchStep b = record { refusal = cond (inForm b) 21 32; handed = replicate 4 (pos 0); batch = b }
 

@@ -8,9 +8,10 @@ use mathlib.Core.Path.{_≡_, refl, sym, _∙_}
 use lib.Dec.{eqb}
 use lib.ListN.{getD}
 use borrow.Author.Tests.{lt-leb, eqb-true}
-use Rattle.laws.specs.Search.{if-or}
+use Rattle.laws.specs.SearchLaws.{if-or}
 use Rattle.laws.specs.Refusal.{Refusal, when, firstOf}
-use Rattle.laws.specs.Fold.{column, column-at}
+use Rattle.laws.specs.Fold.{column}
+use Rattle.laws.specs.FoldLaws.{column-at}
 use Rattle.dependence.specs.Ready.{isCommitted, ready}
 use Rattle.passes.specs.Chain.{chainLengthAt}
 use Rattle.rules.specs.Snapshot.{neverStarted, isStored, isLive}

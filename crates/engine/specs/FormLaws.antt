@@ -5,7 +5,8 @@ use mathlib.Core.Bool.{true, false, _||_}
 use mathlib.Core.Path.{_≡_}
 use lib.Dec.{eqb, ltb}
 use borrow.Author.Tests.{ltb-false, eqb-false}
-use Rattle.laws.specs.Search.{anyBelow, any-fails, or-left, or-right, not-true}
+use Rattle.laws.specs.Search.{anyBelow}
+use Rattle.laws.specs.SearchLaws.{any-fails, or-left, or-right, not-true}
 use Rattle.engine.specs.declared.Batch.{Batch}
 use Rattle.engine.specs.Form.{countsOut, jobOut, inForm}
 

@@ -6,8 +6,10 @@ use mathlib.Core.List.{List}
 use mathlib.Core.Path.{_≡_, refl, sym, ap, _∙_}
 use lib.Dec.{ltb}
 use lib.ListN.{getD, set, replicate}
-use Rattle.laws.specs.Search.{anyBelow, any-same, any-narrow}
-use Rattle.laws.specs.Fold.{upTo, column, column-none, column-more, column-get}
+use Rattle.laws.specs.Search.{anyBelow}
+use Rattle.laws.specs.SearchLaws.{any-same, any-narrow}
+use Rattle.laws.specs.Fold.{upTo, column}
+use Rattle.laws.specs.FoldLaws.{column-none, column-more, column-get}
 use Rattle.jobset.specs.declared.JobSet.{JobSet}
 use Rattle.jobset.specs.JobSet.{emptySet, hasJob, meetsWith}
 use Rattle.walk.specs.Sources.{setOf}

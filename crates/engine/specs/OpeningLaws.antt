@@ -1,11 +1,13 @@
--- What an accepted call promises to the code that carries it out.
+-- What an accepted call promises to the code that carries it out, and what a refused opening leaves.
 use Prim.Native.Nat.{ℕ, _<_}
 use native.Mathlib.Omega.{arith}
 use mathlib.Core.Bool.{Bool, true, false, cond}
 use mathlib.Core.List.{List, _∷_}
 use mathlib.Core.Path.{_≡_, refl}
 use lib.Dec.{leb}
+use lib.IntN.{ℤ}
 use borrow.Author.Tests.{leb-false}
+use Rattle.laws.specs.SearchLaws.{if-or}
 use Rattle.laws.specs.Refusal.{Refusal, when, firstOf}
 use Rattle.dependence.specs.declared.Job.{Job}
 use Rattle.admission.specs.Admission.{jobRefusals}
@@ -13,7 +15,7 @@ use Rattle.rules.specs.Refusals.{insertTests}
 use Rattle.engine.specs.declared.Batch.{Batch}
 use Rattle.engine.specs.Record.{snapshotOf}
 use Rattle.engine.specs.Form.{inForm}
-use Rattle.engine.specs.Opening.{refusalOn, insertRefusal}
+use Rattle.engine.specs.Opening.{openRefused, opened, refusalOn, insertRefusal}
 
 -- An accepted call had a record in form, and passed each of its tests.
 pub allowed-form : (b : Batch) (tests : List Refusal) → refusalOn b tests ≡ 0 → inForm b ≡ true
@@ -39,3 +41,8 @@ insert-place b job e =
     let p = next-passed (s .sealed) 2 (when (leb 128 (s .jobCount)) 3 ∷ jobRefusals job (s .cellCount)) (omega arith) (allowed-tests b (insertTests s job) e) in
     let q = next-passed (leb 128 (s .jobCount)) 3 (jobRefusals job (s .cellCount)) (omega arith) (p .1) in
     leb-false 128 (b .«job_count») (q .0)
+
+-- The batch of a refused opening is out of form, so that every entry refuses it with 32.
+pub refused-opening-form : (heights : List ℤ) → (opened heights .refusal ≡ 0 → ⊥) → inForm (opened heights .batch) ≡ false
+unfolding opened inForm
+refused-opening-form heights refused = if-or (openRefused heights) (λ t. rw t) (λ f. absurd (refused (rw f)))

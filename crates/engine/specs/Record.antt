@@ -1,4 +1,4 @@
--- The engine's record, and the snapshot that the rules read of it.
+-- The engine's record (R90), and the snapshot that the rules read of it (R93).
 use Prim.Native.Nat.{ℕ}
 use mathlib.Core.Bool.{Bool, not, _&&_}
 use mathlib.Core.List.{[]}

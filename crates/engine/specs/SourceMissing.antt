@@ -7,8 +7,9 @@ use mathlib.Core.Path.{_≡_}
 use lib.Dec.{eqb}
 use lib.ListN.{getD}
 use borrow.Author.Tests.{eqb-false}
-use Rattle.laws.specs.Search.{any-same, each-of-four, if-or}
-use Rattle.laws.specs.Fold.{column, column-at}
+use Rattle.laws.specs.SearchLaws.{any-same, each-of-four, if-or}
+use Rattle.laws.specs.Fold.{column}
+use Rattle.laws.specs.FoldLaws.{column-at}
 use Rattle.dependence.specs.Job.{inUse, accessAt, jobAt}
 use Rattle.walk.specs.Sources.{sourcesOf}
 use Rattle.walk.specs.SourceLaws.{source-le}

@@ -9,9 +9,10 @@ use lib.ListN.{getD, set}
 use lib.Seq.{set-getD}
 use borrow.Author.Tests.{leb-false, eqb-true}
 use Rattle.laws.specs.Refusal.{Refusal, when, firstOf}
-use Rattle.laws.specs.Fold.{column, column-at}
+use Rattle.laws.specs.Fold.{column}
+use Rattle.laws.specs.FoldLaws.{column-at}
 use Rattle.rules.specs.Refusals.{stepTests}
-use Rattle.laws.specs.Search.{or-right}
+use Rattle.laws.specs.SearchLaws.{or-right}
 use Rattle.dependence.specs.Ready.{isCommitted, ready}
 use Rattle.rules.specs.Snapshot.{isStored}
 use Rattle.rules.specs.Speculation.{isInvalid, isReady}

@@ -74,7 +74,7 @@ impl Batch {
         32
     }
 
-    /// The height of cell `x`. Refused with 5 or 32.
+    /// R71: the height of cell `x`. Refused with 5 or 32.
     pub fn cell(self, x: usize) -> CellAnswer
         ensures { λ r. ⌜ r ≡ askedCell self x ⌝ }
     {
@@ -124,7 +124,7 @@ impl Batch {
         }
     }
 
-    /// How job `j` stands. Refused with 11 or 32.
+    /// R72: how job `j` stands. Refused with 11 or 32.
     pub fn job(self, j: usize) -> JobAnswer
         ensures { λ r. ⌜ r ≡ askedJob self j ⌝ }
     {
@@ -162,7 +162,7 @@ impl Batch {
         !self.any_uncommitted()
     }
 
-    /// How the batch as a whole stands. Refused with 32.
+    /// R73: how the batch as a whole stands. Refused with 32.
     pub fn progress(self) -> BatchAnswer
         ensures { λ r. ⌜ r ≡ askedBatch self ⌝ }
     {
@@ -203,7 +203,7 @@ impl Batch {
         32
     }
 
-    /// Copies the cells to the buffer from the place `at` on. Refused with 20 or 32.
+    /// R74: copies the cells to the buffer from the place `at` on. Refused with 20 or 32.
     pub fn copy_out(self, buffer: &mut [i32], at: usize) -> u8
         ensures { λ r. ⌜ (r ≡ copyAnswer self (length (now (buffer .entry))) at) × (now (buffer .exit) ≡ bufferAfter self (now (buffer .entry)) at) ⌝ }
     {

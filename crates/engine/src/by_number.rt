@@ -24,7 +24,7 @@ impl Batch {
         }
     }
 
-    /// The step with the number, on job `j`. The values and the mark are those of a report, and ignored by the other
+    /// R50: the step with the number, on job `j`. The values and the mark are those of a report, and ignored by the other
     /// steps. Refused as that step is, and with 21 for a number above 4.
     pub fn step(self, number: u8, j: usize, values: [i32; 4], wrote: u8) -> Started
         ensures { λ r. ⌜ r ≡ stepped self number j values wrote ⌝ }

@@ -132,7 +132,7 @@ impl Batch {
         pick
     }
 
-    /// Names an allowed step among 4, 0 and 1, in that order, on the job with the longest chain, the lowest of equals.
+    /// R60 to R62: names an allowed step 4, else 0, else 1, on the job with the longest chain, the lowest of equals.
     /// Refused with 10, with 19 where there is none, or with 32.
     pub fn choose(self) -> Choice
         ensures { λ r. ⌜ r ≡ chosen self ⌝ }

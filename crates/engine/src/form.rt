@@ -90,7 +90,7 @@ fn held_out(
 }
 
 impl Batch {
-    /// Whether the record is in form: every entry refuses another one with 32.
+    /// R91: whether the record is in form; every entry refuses another one with 32.
     pub fn is_in_form(self) -> bool
         ensures { λ r. ⌜ r ≡ inForm self ⌝ }
     {

@@ -67,7 +67,7 @@ impl Batch {
         }
     }
 
-    /// Opens a batch whose cells hold the heights: 1 to 64 of them, else refusal 1.
+    /// R5: opens a batch whose cells hold the heights: 1 to 64 of them, else refusal 1.
     pub fn open(heights: &[i32]) -> Answer
         ensures { λ r. ⌜ r ≡ opened (now (heights .entry)) ⌝ }
     {
@@ -123,7 +123,7 @@ impl Batch {
         self
     }
 
-    /// Inserts the job as the last one. Refused with 2 to 8, or 32.
+    /// R6: inserts the job as the last one. Refused with 2 to 8, or 32.
     pub fn insert(self, job: Job) -> Answer
         ensures { λ r. ⌜ r ≡ inserted self job ⌝ }
     {
@@ -154,7 +154,7 @@ impl Batch {
         32
     }
 
-    /// Fixes the list of jobs; `switch` says whether speculative runs may be started. Refused with 2, 9 or 32.
+    /// R7: fixes the list of jobs; `switch` says whether speculative runs may be started. Refused with 2, 9 or 32.
     pub fn seal(mut self, switch: u8) -> Answer
         ensures { λ r. ⌜ r ≡ sealedWith self switch ⌝ }
     {

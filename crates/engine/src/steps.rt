@@ -194,7 +194,7 @@ impl Batch {
         32
     }
 
-    /// Step 0: starts the own run of job `j` and hands out the present values of its cells.
+    /// R51, step 0: starts the own run of job `j` and hands out the present values of its cells.
     pub fn start_own(mut self, j: usize) -> Started
         ensures { λ r. ⌜ r ≡ startedOwn self j ⌝ }
     {
@@ -260,7 +260,7 @@ impl Batch {
         handed
     }
 
-    /// Step 1: starts the speculative run of job `j`, as if the uncertain writers before it wrote nothing.
+    /// R52, step 1: starts the speculative run of job `j`, as if the uncertain writers before it wrote nothing.
     pub fn start_speculation(mut self, j: usize) -> Started
         ensures { λ r. ⌜ r ≡ startedSpeculation self j ⌝ }
     {
@@ -347,7 +347,7 @@ impl Batch {
         }
     }
 
-    /// Step 2: takes the report on the own run of job `j`, writes its cells and commits the job.
+    /// R53, step 2: takes the report on the own run of job `j`, writes its cells and commits the job.
     pub fn report_own(self, j: usize, values: [i32; 4], wrote: u8) -> Answer
         ensures { λ r. ⌜ r ≡ reportedOwn self j values wrote ⌝ }
     {
@@ -388,7 +388,7 @@ impl Batch {
         }
     }
 
-    /// Step 3: stores the report on the speculative run of job `j`; no cell changes.
+    /// R54, step 3: stores the report on the speculative run of job `j`; no cell changes.
     pub fn report_speculation(self, j: usize, values: [i32; 4], wrote: u8) -> Answer
         ensures { λ r. ⌜ r ≡ reportedSpeculation self j values wrote ⌝ }
     {
@@ -436,7 +436,7 @@ impl Batch {
         }
     }
 
-    /// Step 4: commits job `j` by its speculative run, whose stored report is written into the cells.
+    /// R55, step 4: commits job `j` by its speculative run, whose stored report is written into the cells.
     pub fn commit(self, j: usize) -> Answer
         ensures { λ r. ⌜ r ≡ committedBy self j ⌝ }
     {

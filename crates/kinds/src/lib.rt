@@ -134,7 +134,7 @@ fn refuse(handed: [i32; 4]) -> Outcome
     }
 }
 
-/// What a job of the kind reports of the values handed to it.
+/// R18: what a job of the kind reports of the values handed to it.
 /// Kind 0 is refused because its result is the worker's own, and a kind above 6 because there is none.
 pub fn result(kind: u8, parameter: i32, handed: [i32; 4]) -> Outcome
     ensures { λ r. ⌜ r ≡ resultOf kind parameter handed ⌝ }

@@ -17,7 +17,7 @@ use Rattle.model.specs.Change.{Grow, kept, dropped, begun, told, changeS
 use Rattle.model.specs.Change.{still-source, old-sources}
 use Rattle.model.specs.Walk.{Gathered, gathered-source}
 
--- "Starting a job's own run throws its fallen guess away": what is left of its guess.
+-- Starting a job's own run throws its fallen guess away: what is left of its guess.
 unfoldable pub discard : Speculation → Speculation
 discard never = never
 discard (out origin) = discarded
@@ -48,7 +48,7 @@ discard-origin (out origin) = refl
 discard-origin (stored origin reported mark) = refl
 discard-origin discarded = refl
 
--- "0 start own: hands out present cell values."
+-- R51, start own.
 abbrev pub ownStart : State → ℕ → (ℕ → ℤ) → State
 ownStart s j handed = changeState s j (running handed) (discard (s .speculation j))
 
@@ -68,7 +68,7 @@ own-start-keeps s j handed inv l e ready values =
     (discard-ok _ (s .speculation j))
     (λ origin d. none-some (discard-origin (s .speculation j)) d)
 
--- "1 start guess: once per job."
+-- R52, start guess.
 abbrev pub speculationStart : State → ℕ → Origin → State
 speculationStart s j origin = changeState s j idle (out origin)
 
@@ -99,7 +99,7 @@ speculation-start-keeps s j origin inv l e g gathered =
         valid
         (gathered-source s j origin inv l o gathered x n)
 
--- "2 report own: writes its cells and settles the job."
+-- R53, report own.
 abbrev pub ownReport : State → ℕ → (ℕ → ℤ) → (ℕ → ℤ) → Bool → State
 ownReport s j handed reported mark = commitState s j handed reported mark
 
@@ -124,7 +124,7 @@ own-report-keeps s j handed reported mark inv l e =
     no-guess (stored origin r m) (inr ok) = inr (cc)
     no-guess discarded ok = tt
 
--- "3 report guess: stores the report; no cell changes."
+-- R54, report guess.
 abbrev pub speculationReport : State → ℕ → Origin → (ℕ → ℤ) → Bool → State
 speculationReport s j origin reported mark = changeState s j idle (stored origin reported mark)
 
@@ -156,7 +156,7 @@ speculation-report-keeps s j origin reported mark inv g =
         (rw (update-same (s .progress) j idle j refl))
         valid x n
 
--- "4 settle: writes the stored report into the cells; the job is settled by its guess with that mark."
+-- R55, settle.
 abbrev pub speculationCommit : State → ℕ → Origin → (ℕ → ℤ) → Bool → State
 speculationCommit s j origin reported mark = commitState s j (origin .handed) reported mark
 

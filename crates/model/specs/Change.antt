@@ -7,7 +7,7 @@ use mathlib.Core.Logic.{_≢_, _⊎_, inl, inr}
 use mathlib.Core.Option.{some}
 use mathlib.Core.Bool.{Bool, true, false}
 use lib.IntN.{ℤ}
-use Rattle.laws.specs.Search.{clash}
+use Rattle.laws.specs.SearchLaws.{clash}
 use Rattle.model.specs.Cases.{at-or, one-or}
 use Rattle.model.specs.Update.{update, update-same, update-other}
 use Rattle.model.specs.Column.{after-agree}

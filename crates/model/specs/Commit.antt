@@ -7,7 +7,7 @@ use mathlib.Core.Logic.{_≢_, inl, inr}
 use mathlib.Core.Option.{none, some}
 use mathlib.Core.Bool.{Bool, true, false}
 use lib.IntN.{ℤ}
-use Rattle.laws.specs.Search.{if-or, clash}
+use Rattle.laws.specs.SearchLaws.{if-or, clash}
 use Rattle.model.specs.Cases.{at-or, below-or}
 use Rattle.model.specs.Update.{update, update-same, update-other}
 use Rattle.model.specs.Column.{applied, after-agree, after-quiet, after-late}

@@ -1,4 +1,4 @@
--- An insert keeps the invariant, at whatever moment it comes. "The job is added as the last."
+-- An insert keeps the invariant, at whatever moment it comes: the job is added as the last (R6).
 use Prim.Native.Nat.{ℕ, suc, _≤_, _<_}
 use native.Mathlib.Omega.{arith}
 use mathlib.Core.Path.{_≡_, sym, _∙_}
@@ -6,7 +6,7 @@ use mathlib.Core.Logic.{_≢_}
 use mathlib.Core.Option.{none, some}
 use mathlib.Core.Bool.{Bool}
 use lib.IntN.{ℤ}
-use Rattle.laws.specs.Search.{clash}
+use Rattle.laws.specs.SearchLaws.{clash}
 use Rattle.model.specs.Cases.{below-or, none-some}
 use Rattle.model.specs.Update.{update, update-other}
 use Rattle.model.specs.Column.{after-agree}

@@ -4,7 +4,7 @@ use native.Mathlib.Omega.{arith}
 use mathlib.Core.Path.{_≡_, _∙_}
 use mathlib.Core.Option.{none, some}
 use mathlib.Core.Bool.{true}
-use Rattle.laws.specs.Search.{if-or}
+use Rattle.laws.specs.SearchLaws.{if-or}
 use Rattle.model.specs.Cases.{at-or}
 use Rattle.model.specs.Column.{after-quiet}
 use Rattle.model.specs.State.{names, mayWrite, isCommitted, Origin, originOf, State, effects, before}
@@ -41,7 +41,7 @@ present-is-before s inv j x l o n =
     quiet : (i : ℕ) → j ≤ i → i < s .jobCount → effects s x i ≡ none
     quiet i b _ = quiet-from-open s j x i (inv .orderly) o n b
 
--- "A ready job's guess that has not fallen stands": it was handed what the jobs before it left.
+-- A ready job's guess that has not fallen was handed what the jobs before it left: why a guess that stands (R44) is right.
 pub valid-is-right : (s : State) → Invariant s → (j : ℕ) (origin : Origin)
     → originOf (s .speculation j) ≡ some origin → Open s j → Ready s j → ¬ Invalid s j → Right s j (origin .handed)
 valid-is-right s inv j origin e o ready valid x n = cases (inv .sources j origin e o valid x n)

@@ -10,4 +10,3 @@ pub mod Walk
 pub mod Actions
 pub mod Insert
 pub mod Opening
-pub mod Validity

@@ -1,8 +1,8 @@
--- The first state: "the batch that an accepted opening handed back, unsealed and without jobs."
+-- The first state: that of the batch which an accepted opening handed back, unsealed and without jobs (R5).
 use Prim.Native.Nat.{ℕ}
 use native.Mathlib.Omega.{arith}
 use mathlib.Core.Path.{_≡_, sym, ap, _∙_}
-use Rattle.laws.specs.Search.{clash}
+use Rattle.laws.specs.SearchLaws.{clash}
 use Rattle.model.specs.Cases.{none-some}
 use Rattle.model.specs.State.{originOf, State, before, Invariant}
 use Rattle.model.specs.StateLaws.{idle-open}

@@ -13,7 +13,7 @@ use Rattle.model.specs.Column.{after}
 pub data Use : Type 0 where
   absent reads writes maybe : Use
 
--- The cell stands in the job. "A writer may also use the old value, so all its cells are handed to it."
+-- The cell stands in the job, and is handed to its runs whatever its mode (R4).
 unfoldable pub names : Use → Bool
 names absent = false
 names reads = true
@@ -27,15 +27,14 @@ mayWrite reads = false
 mayWrite writes = true
 mayWrite maybe = true
 
--- The cell was written by a report with this mark. "A job's write cells get the values of its counted report, its
--- maybe-write cells too if the mark is 1; all other cells stay."
+-- R33: the cell is written by a report with this mark.
 unfoldable pub wroteCell : Use → Bool → Bool
 wroteCell absent mark = false
 wroteCell reads mark = false
 wroteCell writes mark = true
 wroteCell maybe mark = mark
 
--- "Two jobs conflict if they share a cell and at least one access to it is not a read": the two uses of one cell.
+-- R20, of one cell: both jobs use it, and not both only read.
 unfoldable pub usesConflict : Use → Use → Bool
 usesConflict absent later = false
 usesConflict reads later = mayWrite later
@@ -66,7 +65,7 @@ abbrev pub given : Bool → ℤ → Option ℤ
 given true value = some value
 given false value = none
 
--- The effect of a job's turn on a cell. "A job without a counted report is passed over."
+-- R165: the effect of a job's turn on a cell. A job without a counted report is passed over.
 unfoldable pub effect : Use → ℕ → Progress → Option ℤ
 effect mode x idle = none
 effect mode x (running handed) = none
@@ -128,7 +127,7 @@ Committed s i = isCommitted (s .progress i) ≡ true
 abbrev pub Open : State → ℕ → Type 0
 Open s i = isCommitted (s .progress i) ≡ false
 
--- "A job is ready when each earlier conflicting job is settled."
+-- R21: ready.
 abbrev pub Ready : State → ℕ → Type 0
 Ready s j = (i x : ℕ) → i < j → usesConflict (s .uses i x) (s .uses j x) ≡ true → Committed s i
 
@@ -140,8 +139,7 @@ Orderly s = (j : ℕ) → Committed s j → Ready s j
 abbrev pub Right : State → ℕ → (ℕ → ℤ) → Type 0
 Right s j handed = (x : ℕ) → names (s .uses j x) ≡ true → handed x ≡ before s j x
 
--- "A guess has fallen if a job it looked past is settled with mark 1, or a guess it took from has fallen or been
--- thrown away."
+-- R43: fallen.
 pub data Invalid (s : State) : ℕ → Type 0 where
   bypassed-wrote : {j i : ℕ} {origin : Origin}
       → originOf (s .speculation j) ≡ some origin

@@ -1,13 +1,11 @@
--- What a guess is handed. Document 01: "For each cell of the job, go back through earlier unsettled jobs. A
--- maybe-writer of that cell is looked past; at a writer (mode 1) the value its guess reported is taken; if none is
--- met, the present cell value is handed out."
+-- R41: what a guess is handed, found by going back through the earlier jobs that are not settled.
 use Prim.Native.Nat.{ℕ, zero, suc, _≤_, _<_}
 use native.Mathlib.Omega.{arith}
 use mathlib.Core.Path.{_≡_, refl, _∙_}
 use mathlib.Core.Option.{Option, none, some}
 use mathlib.Core.Bool.{Bool, true, false}
 use lib.IntN.{ℤ}
-use Rattle.laws.specs.Search.{clash}
+use Rattle.laws.specs.SearchLaws.{clash}
 use Rattle.model.specs.Cases.{at-or, none-some}
 use Rattle.model.specs.State.{Use, absent, reads, writes, maybe, names, mayWrite, isCommitted, Origin, reportAt}
 use Rattle.model.specs.State.{State, Open, Bypass, Source, forwarded, present, Invariant}

@@ -1,6 +1,4 @@
--- The number in a field, as a function of the field's bytes.
--- Document 01: "values are in base ten without leading zeros or minus zero"; out of form are "a number outside 32 signed bits,
--- a minus sign other than in a height or p".
+-- R143: the number in a field, as a function of the field's bytes.
 use Prim.Native.Nat.{ℕ, _+_, _*_, _-_}
 use mathlib.Core.Bool.{Bool, true, cond, not, _&&_}
 use mathlib.Core.List.{List, [], _∷_}
@@ -51,7 +49,7 @@ valueOf digits = valueAfter 0 digits
 unfoldable pub hasLeadingZero : List ℕ → Bool
 hasLeadingZero field = leb 2 (length field) && eqb (getD field 0 0) zeroDigit
 
--- "in base ten without leading zeros": digits, at least one, and no leading zero.
+-- In base ten: digits, at least one, and no leading zero.
 abbrev pub inBaseTen : List ℕ → Bool
 inBaseTen field = not (eqb (length field) 0) && (not (hasLeadingZero field) && allDigits field)
 
@@ -86,7 +84,7 @@ negativeOf digits = negated (naturalUpTo smallestNegated digits)
 unfoldable pub unsignedOf : List ℕ → Number
 unsignedOf digits = unsigned (naturalUpTo largest digits)
 
--- The number in a field in which a minus sign is allowed: "a height or p".
+-- The number in a field in which a minus sign is allowed, a height or p.
 unfoldable pub signedOf : List ℕ → Number
 signedOf [] = number.Not
 signedOf (first ∷ rest) = cond (eqb first minusSign) (negativeOf rest) (unsignedOf (first ∷ rest))

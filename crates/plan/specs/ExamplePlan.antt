@@ -1,4 +1,4 @@
--- Document 01's own plan, read from its definition.
+-- P8's plan, as the definition reads it.
 use Prim.Native.Nat.{ℕ}
 use mathlib.Core.List.{List, [], _∷_}
 use mathlib.Core.Path.{_≡_, refl}

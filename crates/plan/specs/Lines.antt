@@ -1,6 +1,4 @@
--- What cell lines and job lines say, each as a small record. Step lines stand in their own crate.
--- Document 01: "Fields have one space between, lines end in line feed, values are in base ten without leading zeros or
--- minus zero; absent trailing cells are `-`."
+-- What cell lines and job lines say (R142 to R145), each as a small record. Step lines stand in their own crate.
 use Prim.Native.Nat.{ℕ, _+_, _-_}
 use mathlib.Core.Bool.{Bool, true, false, cond, not, _&&_}
 use mathlib.Core.List.{List, [], _∷_}
@@ -53,12 +51,12 @@ absent = 1
 abbrev pub neither : ℕ
 neither = 2
 
--- "a minus sign other than in a height or p" is out of form: a cell is a count.
+-- A cell is a count, so a minus sign is out of form (R143).
 abbrev pub cellFieldFrom : Natural → CellField
 cellFieldFrom natural.Not = record { form = neither; cell = 0 }
 cellFieldFrom (natural.Is number) = record { form = given; cell = capped number }
 
--- "absent .. cells are `-`"
+-- R145: a cell that the job does not have is `-`.
 unfoldable pub cellFieldOf : List ℕ → CellField
 cellFieldOf field =
     cond (sameText field (minusSign ∷ [])) (record { form = absent; cell = 0 }) (cellFieldFrom (countOf field))
@@ -67,7 +65,7 @@ cellFieldOf field =
 abbrev pub noCells : Cells
 noCells = record { ok = false; arity = 0; a = 0; b = 0; c = 0 }
 
--- "absent trailing cells": each field gives a cell or says that there is none, and after an absent one all are absent.
+-- Each field gives a cell or says that there is none, and after an absent one all are absent.
 abbrev pub absentLast : CellField → CellField → CellField → Bool
 absentLast a b c = leb (a .form) (b .form) && (leb (b .form) (c .form) && leb (c .form) absent)
 
@@ -78,7 +76,7 @@ cellsFrom a b c =
     (record { ok = true; arity = 3 - (a .form + b .form + c .form); a = a .cell; b = b .cell; c = c .cell })
     noCells
 
--- "Modes follow the kind": those of document 01's table, 0 in places that the kind has not.
+-- R145: the modes are those of the kind, and 0 in places that the kind has not.
 abbrev pub modeAt : ℕ → ℕ → ℕ
 modeAt kind i = getD (kindModes kind) i 0
 
@@ -104,7 +102,7 @@ jobWith kind parameter cells =
 abbrev pub noJobLine : JobLine
 noJobLine = record { ok = false; job = blankJob }
 
--- "Kind 0 or a step above 4 gives 21."
+-- R145: kind 0 is not in form.
 abbrev pub jobLineFrom : Natural → Number → Cells → JobLine
 jobLineFrom natural.Not second cells = noJobLine
 jobLineFrom (natural.Is kind) number.Not cells = noJobLine

@@ -1,6 +1,5 @@
--- The reading of a plan, line after line.
--- Document 01: "It reads a plan from standard input: a line of names, then lines of values in that order, for each of four
--- parts." The parts here: 0 the names of the cells, 1 the cells up to the names of the jobs, 2 the jobs up to the name of the
+-- R141: the reading of a plan, line after line. Of the four parts and their lines of names there are six
+-- parts here: 0 the names of the cells, 1 the cells up to the names of the jobs, 2 the jobs up to the name of the
 -- switch, 3 the switch, 4 the names of the steps, 5 the steps.
 use Prim.Native.Nat.{ℕ, _+_}
 use mathlib.Core.Bool.{cond, not}
@@ -37,7 +36,7 @@ start =
       «step_line» = 0;
     }
 
--- "the number with its line, counted from 1"
+-- R150: the number of the fault, and its line.
 abbrev pub faulty : Reading → ℕ → ℕ → Reading
 faulty r fault n =
     record {
@@ -50,7 +49,7 @@ faulty r fault n =
       «step_line» = r .«step_line»;
     }
 
--- "21: a line not in form."
+-- R148: the line is not in form.
 abbrev pub outOfForm : Reading → ℕ → Reading
 outOfForm r n = faulty r 21 n
 
@@ -128,13 +127,13 @@ stepNames = 115 ∷ 116 ∷ 101 ∷ 112 ∷ 32 ∷ 106 ∷ 111 ∷ 98 ∷ []
 unfoldable pub cellNamesRead : Reading → List ℕ → ℕ → Reading
 cellNamesRead r line n = cond (sameText line cellNames) (nextPart r) (outOfForm r n)
 
--- "1: cell count not 1 to 64.", and "refusal 1 on the names line of the jobs": there the batch is opened.
+-- R147: the batch is opened on the names line of the jobs, so that 1 (R101) comes on that line.
 unfoldable pub jobNamesRead : Reading → ℕ → Reading
 jobNamesRead r n =
     cond (ltb 64 (r .«cell_count»)) (faulty r 1 n)
     (answered (nextPart r) (opened (take (r .«cell_count») (r .heights))) n)
 
--- "cell lines not numbered 0, 1, 2 in turn" are out of form.
+-- R144: cell lines that are not numbered 0, 1, 2 in turn are out of form.
 abbrev pub cellAsSaid : Reading → CellLine → ℕ → Reading
 cellAsSaid r said n =
     cond (not (said .ok)) (outOfForm r n)
@@ -146,7 +145,7 @@ cellRead r line n = cellAsSaid r (cellLineOf line) n
 unfoldable pub cellPartRead : Reading → List ℕ → ℕ → Reading
 cellPartRead r line n = cond (sameText line jobNames) (jobNamesRead r n) (cellRead r line n)
 
--- "On its line 21 goes before other numbers."; those are the engine's: "no cells gives 4, another wrong number of them 8".
+-- R148: on its line 21 goes before the other numbers, which are the engine's (R147).
 abbrev pub jobAsSaid : Reading → JobLine → ℕ → Reading
 jobAsSaid r said n = cond (not (said .ok)) (outOfForm r n) (answered r (inserted (r .batch) (said .job)) n)
 
@@ -156,7 +155,7 @@ jobRead r line n = jobAsSaid r (jobLineOf line) n
 unfoldable pub jobPartRead : Reading → List ℕ → ℕ → Reading
 jobPartRead r line n = cond (sameText line switchName) (nextPart r) (jobRead r line n)
 
--- The switch is a count; the batch is sealed with it: "9: guess switch not 0 or 1."
+-- The switch is a count, and the batch is sealed with it, so that 9 (R109) comes on its line.
 abbrev pub switchAsSaid : Reading → Natural → ℕ → Reading
 switchAsSaid r natural.Not n = outOfForm r n
 switchAsSaid r (natural.Is switch) n = answered (nextPart r) (sealedWith (r .batch) (capped switch)) n
@@ -167,7 +166,7 @@ switchRead r line n = switchAsSaid r (countOf line) n
 unfoldable pub stepNamesRead : Reading → List ℕ → ℕ → Reading
 stepNamesRead r line n = cond (sameText line stepNames) (stepsBegin r n) (outOfForm r n)
 
--- "The first faulty line decides, before any step": a step line is looked at here, and tried later.
+-- R150: the first faulty line decides before any step is tried. So a step line is looked at here, and tried later.
 unfoldable pub stepRead : Reading → List ℕ → ℕ → Reading
 stepRead r line n = cond (not (stepLineOf line .ok)) (outOfForm r n) r
 
@@ -180,12 +179,12 @@ partRead r line n =
     (cond (eqb (r .part) 4) (stepNamesRead r line n)
     (stepRead r line n)))))
 
--- "The first faulty line decides": later ones change nothing.
+-- R150: the first faulty line decides; later ones change nothing.
 unfoldable pub lineRead : Reading → List ℕ → ℕ → Reading
 lineRead r line n = cond (eqb (r .fault) 0) (partRead r line n) r
 
--- "lines end in line feed": what follows the last one, which would be line n, is nothing.
--- "Input that ends too soon is at fault on the line after its last": before the steps it ends too soon.
+-- R142: lines end in a line feed, so nothing follows the last one, on what would be line n.
+-- R149: before the steps the input ends too soon, and is at fault on the line after its last.
 abbrev pub endRead : Reading → List ℕ → ℕ → Reading
 endRead r rest n = cond (eqb (r .part) 5) (cond (eqb (length rest) 0) r (outOfForm r n)) (outOfForm r n)
 
@@ -198,6 +197,6 @@ linesRead r n [] = r
 linesRead r n (rest ∷ []) = ended r rest n
 linesRead r n (line ∷ next ∷ others) = linesRead (lineRead r line n) (n + 1) (next ∷ others)
 
--- The whole input. "22: over 65,536 bytes (line 0)" is the caller's to decide, before anything is read.
+-- The whole input. Whether it is too long (R122) is the caller's to decide, before anything is read.
 abbrev pub planOf : List ℕ → Reading
 planOf bytes = linesRead start 1 (pieces lineFeed bytes)

@@ -21,7 +21,7 @@ read-next r n line separator bytes = go (pieces separator bytes) (some-piece sep
     go [] h = absurd (omega arith)
     go (next ∷ others) h = refl
 
--- "The first faulty line decides": a fault stays as it is, whatever lines follow.
+-- R150: a fault stays as it is, whatever lines follow.
 pub fault-stays : (r : Reading) (n : ℕ) (lines : List (List ℕ)) → (r .fault ≡ 0 → ⊥) → linesRead r n lines ≡ r
 unfolding linesRead lineRead ended
 fault-stays r n [] h = refl

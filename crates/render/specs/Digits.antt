@@ -6,8 +6,9 @@ use mathlib.Core.Path.{_≡_, refl}
 use lib.Dec.{ltb}
 use lib.ListN.{length, getD, length-append, List·getD-append}
 use borrow.Author.Tests.{ltb-true, ltb-false}
-use Rattle.laws.specs.Search.{if-or}
-use Rattle.render.specs.Text.{digit, decimal, decimal-one, decimal-more}
+use Rattle.laws.specs.SearchLaws.{if-or}
+use Rattle.render.specs.Text.{digit, decimal}
+use Rattle.render.specs.TextLaws.{decimal-one, decimal-more}
 
 -- What holds of the numbers below 10, and of a number from 10 on if it holds of its tens, holds of every number.
 pub by-tens {ℓ} : (P : ℕ → Type ℓ) → ((n : ℕ) → n < 10 → P n) → ((n : ℕ) → 10 ≤ n → P (n / 10) → P n) → (n : ℕ) → P n

@@ -8,8 +8,9 @@ use lib.IntN.{ℤ, pos, negsuc}
 use lib.ListN.{length, length-append}
 use lib.Signed.{mag}
 use borrow.Author.Tests.{ltb-true, ltb-false}
-use Rattle.laws.specs.Search.{if-or}
-use Rattle.render.specs.Text.{space, lineFeed, digit, decimal, decimal-one, decimal-more, heightText, lineOf, pairLine, tripleLine, heightLine, faultNames, faultLines}
+use Rattle.laws.specs.SearchLaws.{if-or}
+use Rattle.render.specs.Text.{space, lineFeed, digit, decimal, heightText, lineOf, pairLine, tripleLine, heightLine, faultNames, faultLines}
+use Rattle.render.specs.TextLaws.{decimal-one, decimal-more}
 
 -- A number below a power of ten has no more digits than the power has zeros.
 pub decimal-length : (k n : ℕ) → n < 10 ^ suc k → length (decimal n) ≤ suc k

@@ -1,4 +1,4 @@
--- What is refused, in the order of the numbers. Document 01: "If several apply, the lowest number is given."
+-- What is refused, in the order of the numbers: the lowest that applies is given (R100).
 -- (32, a record out of form, goes before all: the engine's own definitions add it.)
 use Prim.Native.Nat.{ℕ}
 use mathlib.Core.Bool.{not, _||_}
@@ -12,27 +12,26 @@ use Rattle.rules.specs.Snapshot.{Snapshot, neverStarted, isOut, isStored
 use Rattle.rules.specs.Speculation.{isReady, isInvalid, isValid, sourceMissing}
 use Rattle.rules.specs.Call.{Call, insert, seal, startOwn, startSpeculation, reportOwn, reportSpeculation, commit}
 
--- "2: insert or seal after sealing. 3: 128 jobs are held." Then 4 to 8, as the job alone decides.
+-- R102: the batch is sealed. R103: 128 jobs are held. Then R104 to R108, as the job alone decides.
 abbrev pub insertTests : Snapshot → Job → List Refusal
 insertTests s job = when (s .sealed) 2 ∷ when (leb 128 (s .jobCount)) 3 ∷ jobRefusals job (s .cellCount)
 
--- "9: guess switch not 0 or 1."
+-- R102 again. R109: the guess switch is neither 0 nor 1.
 abbrev pub sealTests : Snapshot → ℕ → List Refusal
 sealTests s switch = when (s .sealed) 2 ∷ when (ltb 1 switch) 9 ∷ []
 
--- "10: step or choice before sealing. 11: job number not below the job count."
+-- Every step. R110: the batch is not sealed. R111: there is no such job.
 abbrev pub stepTests : Snapshot → ℕ → List Refusal → List Refusal
 stepTests s j rest = when (not (s .sealed)) 10 ∷ when (leb (s .jobCount) j) 11 ∷ rest
 
--- "13: start own when settled or its own run is out. 15: start own of a job not ready. 17: start own while its guess
--- stands."
+-- Start own. R113: the job is settled, or its own run is out. R115: it is not ready. R117: its guess stands.
 abbrev pub startOwnTests : Snapshot → ℕ → List Refusal
 startOwnTests s j =
     stepTests s j
     (when (s .committed j || s .running j) 13 ∷ when (not (isReady s j)) 15 ∷ when (isValid s j) 17 ∷ [])
 
--- "12: start guess with guessing off. 13: start guess when settled, its own run is out, or a guess was ever started.
--- 14: start guess of a ready job. 15: start guess when a writer met has no stored report or its guess has fallen."
+-- Start guess. R112: guessing is off. R113: the job is settled, its own run is out, or a guess was ever started. R114: it
+-- is ready. R115: a job that it would take from has no stored guess, or a fallen one.
 abbrev pub startSpeculationTests : Snapshot → ℕ → List Refusal
 startSpeculationTests s j =
     stepTests s j
@@ -42,8 +41,7 @@ startSpeculationTests s j =
     ∷ when (sourceMissing s j) 15
     ∷ [])
 
--- "13: report own or guess when that run is not out (a thrown-away guess is not). 16: mark not 0 or 1, or 1 from a job
--- without mode 2."
+-- Reports. R113: that run is not out (a guess thrown away is not). R116: the mark is not one that the job may report.
 abbrev pub reportOwnTests : Snapshot → ℕ → ℕ → List Refusal
 reportOwnTests s j wrote =
     stepTests s j (when (not (s .running j)) 13 ∷ when (wroteRefused (s .job j) wrote) 16 ∷ [])
@@ -52,7 +50,7 @@ abbrev pub reportSpeculationTests : Snapshot → ℕ → ℕ → List Refusal
 reportSpeculationTests s j wrote =
     stepTests s j (when (not (isOut (s .phase j))) 13 ∷ when (wroteRefused (s .job j) wrote) 16 ∷ [])
 
--- "13: settle when settled or no guess is in stored state. 15: settle of a job not ready. 18: settle a fallen guess."
+-- Settle. R113: the job is settled, or its guess is not stored. R115: it is not ready. R118: the guess has fallen.
 abbrev pub commitTests : Snapshot → ℕ → List Refusal
 commitTests s j =
     stepTests s j

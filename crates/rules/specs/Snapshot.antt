@@ -18,7 +18,7 @@ pub record Snapshot : Type 0 where
   pub wrote : ℕ → Bool
   -- its own run is out
   pub running : ℕ → Bool
-  -- its guess: 0 never started, 1 out, 2 with a stored report, 3 thrown away
+  -- its guess (R40): 0 never started, 1 out, 2 with a stored report, 3 thrown away
   pub phase : ℕ → ℕ
   -- its guess looked past the job given second
   pub bypassed : ℕ → ℕ → Bool

@@ -9,22 +9,22 @@ use Rattle.dependence.specs.Conflict.{conflicts}
 use Rattle.rules.specs.Walk.{sourceOf, bypasses}
 use Rattle.rules.specs.Snapshot.{Snapshot, isStored, isDiscarded, isLive}
 
--- "A job is ready when each earlier conflicting job is settled."
+-- R21: a job is ready when every earlier job that conflicts with it is settled.
 abbrev pub waits : Snapshot → ℕ → ℕ → Bool
 waits s j i = not (s .committed i) && conflicts (s .job i) (s .job j)
 
 unfoldable pub isReady : Snapshot → ℕ → Bool
 isReady s j = not (anyBelow j (waits s j))
 
--- Where a guess of job j, started now, takes the value at a place from, and the jobs that it looks past.
+-- R41, R42: where a guess of job j, started now, takes the value at a place from, and the jobs that it looks past.
 abbrev pub sourceNow : Snapshot → ℕ → ℕ → ℕ
 sourceNow s j place = sourceOf (s .job) (s .committed) j place
 
 abbrev pub bypassedNow : Snapshot → ℕ → ℕ → Bool
 bypassedNow s j i = bypasses (s .job) (s .committed) j i
 
--- "A guess has fallen if a job it looked past is settled with mark 1, or a guess it took from has fallen or been thrown
--- away." Fallen is `invalid` here. Guesses take from earlier jobs only, so the jobs are judged in their order:
+-- R43: a guess has fallen if a job that it looked past is settled with mark 1, or if a guess that it took from has fallen or
+-- is thrown away. (Fallen is `invalid` here.) Guesses take from earlier jobs only, so the jobs are judged in their order:
 -- `earlier` tells which guesses of the jobs before j have fallen.
 abbrev pub sourceLost : Snapshot → List Bool → ℕ → Bool
 sourceLost s earlier source =
@@ -42,11 +42,11 @@ invalidBelow s (suc j) = invalidBelow s j ++ (invalidGiven s (invalidBelow s j) 
 unfoldable pub isInvalid : Snapshot → ℕ → Bool
 isInvalid s j = invalidGiven s (invalidBelow s j) j
 
--- "A ready job's guess that has not fallen stands."
+-- R44: of a ready job's guess, that it stands. (Where it is asked, 15 has been given to a job that is not ready.)
 abbrev pub isValid : Snapshot → ℕ → Bool
 isValid s j = isLive (s .phase j) && not (isInvalid s j)
 
--- A guess of job j cannot start: "a writer met has no stored report or its guess has fallen."
+-- R115: a guess of job j cannot start, since a job that it would take from has no stored guess, or a fallen one.
 abbrev pub unusable : Snapshot → ℕ → Bool
 unusable s source = cond (eqb source 0) false (not (isStored (s .phase (source - 1))) || isInvalid s (source - 1))
 

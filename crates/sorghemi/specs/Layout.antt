@@ -1,4 +1,4 @@
--- How the record and the structs beside it lie in memory: the one list that hosts compare their own with.
+-- R95: how the record and the structs beside it lie in memory: the one list that hosts compare their own with.
 -- It begins with its version, which also changes where a field only changes its meaning. Then come, for each struct, its size
 -- and the offsets of its fields in their order, in bytes.
 use Prim.Native.Nat.{ℕ}

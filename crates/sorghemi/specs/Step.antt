@@ -10,7 +10,7 @@ use Rattle.engine.specs.Perform.{perform}
 use Rattle.sorghemi.specs.declared.Report.{Report}
 use Rattle.sorghemi.specs.declared.Handed.{Handed}
 
--- The step with the number on job j. Its batch is what stands in a lent record afterwards, refused or not.
+-- R9: the step with the number on job j. Its batch is what stands in a lent record afterwards, refused or not.
 abbrev pub steppedFor : Batch → ℕ → ℕ → Report → Started
 steppedFor b number j report = stepped b number j (report .values) (report .wrote)
 
@@ -18,7 +18,7 @@ steppedFor b number j report = stepped b number j (report .values) (report .wrot
 abbrev pub handedBy : Started → Handed
 handedBy started = record { refusal = started .refusal; values = started .handed }
 
--- "A step in the lent form counts as that step": the call that the step is among those of demand 3.
+-- R161: a step in the lent form counts as that step. The call that it is, among those of demand 3:
 abbrev pub callOf : ℕ → ℕ → Report → Call
 callOf zero j report = startOwn j
 callOf (suc zero) j report = startSpeculation j

@@ -88,7 +88,7 @@ const NUMBERS: [u32; 66] = [
     5,
 ];
 
-/// The number at a place of the list that hosts compare their own with; 0 past its end.
+/// R95: the number at a place of the list that hosts compare their own with; 0 past its end.
 #[no_mangle]
 pub extern "C" fn sorghemi_layout(place: usize) -> u32
     ensures { λ r. ⌜ r ≡ getD layout place 0 ⌝ }

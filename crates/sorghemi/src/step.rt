@@ -21,7 +21,7 @@ pub extern "C" fn sorghemi_step_by_value(
     batch.step(number, job, values, report.wrote)
 }
 
-/// The same step on a batch that the host lends: it holds what the by-value step hands back. A refusal leaves it as it was.
+/// R9: the same step on a batch that the host lends: it holds what the by-value step hands back. A refusal leaves it as it was.
 #[no_mangle]
 pub extern "C" fn sorghemi_step(batch: &mut Batch, number: u8, job: usize, report: Report) -> Handed
     ensures { λ r. ⌜ (now (batch .exit) ≡ steppedFor (now (batch .entry)) number job report .batch) × (r ≡ handedBy (steppedFor (now (batch .entry)) number job report)) ⌝ }

@@ -1,5 +1,4 @@
--- What a step line says.
--- Document 01: "a line of names, then lines of values in that order": the order is `step job`.
+-- R146: what a step line says, a line of values under the names `step job`.
 use Prim.Native.Nat.{ℕ}
 use mathlib.Core.Bool.{true, false, cond}
 use mathlib.Core.List.{List, []}
@@ -11,7 +10,7 @@ use Rattle.number.specs.declared.Natural.{Natural}
 use Rattle.number.specs.declared.Natural.the-variants as natural
 use Rattle.steplines.specs.declared.StepLine.{StepLine}
 
--- "Fields have one space between": how many a line has, and each of them, counted from 0.
+-- How many fields a line has, and each of them, counted from 0 (R142).
 
 abbrev pub fieldCount : List ℕ → ℕ
 fieldCount line = length (pieces space line)
@@ -23,7 +22,7 @@ fieldOf line k = getD (pieces space line) k []
 abbrev pub noStep : StepLine
 noStep = record { ok = false; step = 0; job = 0 }
 
--- The line's two fields are counts. "Kind 0 or a step above 4 gives 21."
+-- The line's two fields are counts, and a step above 4 is not in form.
 abbrev pub stepFrom : Natural → Natural → StepLine
 stepFrom natural.Not second = noStep
 stepFrom (natural.Is step) natural.Not = noStep

@@ -1,5 +1,5 @@
 -- The second pass over a plan: its step lines, performed one after the other.
--- Document 01: "Reports follow the kind." and "Every step is tried, also after a refusal."
+-- R151: every step is tried in its turn, also after a refusal, and reports are what the kind gives.
 use Prim.Native.Nat.{ℕ}
 use mathlib.Core.List.{List, [], _∷_, _++_}
 use Rattle.kinds.specs.Kinds.{resultOf}
@@ -12,7 +12,7 @@ use Rattle.steplines.specs.StepLines.{stepLineOf}
 use Rattle.steplines.specs.declared.StepLine.{StepLine}
 use Rattle.render.specs.Text.{pairLine}
 
--- "Reports follow the kind": job j reports its kind's result, by its parameter, of the values handed to the run it holds.
+-- R151: job j reports its kind's result, by its parameter, of the values handed to the run it holds.
 -- For a number that names no job all of these are 0; its report is refused.
 unfoldable pub reportOf : Batch → ℕ → Outcome
 reportOf b j = resultOf (askedJob b j .job .kind) (askedJob b j .job .parameter) (askedJob b j .handed)
@@ -25,11 +25,11 @@ performed b line =
 abbrev pub lineDone : Batch → List ℕ → Started
 lineDone b line = performed b (stepLineOf line)
 
--- "Step lines .. begin with the step number"; "Answer 0 is accepted, else a refusal."
+-- R152: the step, and 0 or the number of the refusal.
 abbrev pub answerLine : Batch → List ℕ → List ℕ
 answerLine b line = pairLine (stepLineOf line .step) (lineDone b line .refusal)
 
--- "Step lines follow the plan's order": each is tried on the batch that the one before it left.
+-- In the plan's order: each is tried on the batch that the one before it left.
 -- Lines end in line feed, so the last piece, behind the last line feed, is none.
 
 unfoldable pub stepsText : Batch → List (List ℕ) → List ℕ

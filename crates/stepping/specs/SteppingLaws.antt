@@ -8,7 +8,7 @@ use lib.Dec.{eqb, ltb}
 use lib.IntN.{ℤ}
 use lib.ListN.{length, length-append}
 use borrow.Author.Tests.{ltb-true, ltb-false}
-use Rattle.laws.specs.Search.{and-left, and-right}
+use Rattle.laws.specs.SearchLaws.{and-left, and-right}
 use Rattle.laws.specs.Refusal.{Refusal, when, firstOf}
 use Rattle.rules.specs.Refusals.{startOwnTests, startSpeculationTests, reportOwnTests, reportSpeculationTests, commitTests}
 use Rattle.engine.specs.Form.{inForm}

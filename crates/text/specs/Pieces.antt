@@ -1,5 +1,5 @@
 -- The pieces into which a separator cuts a list of bytes: the lines of a plan, the fields of a line.
--- Document 01: "Fields have one space between, lines end in line feed".
+-- R142: lines end in a line feed, and fields have one space between.
 use Prim.Native.Nat.{ℕ, _+_, min}
 use mathlib.Core.Bool.{cond}
 use mathlib.Core.List.{List, [], _∷_}

@@ -9,7 +9,7 @@ use lib.Dec.{eqb}
 use lib.IntN.{ℤ, pos}
 use lib.ListN.{length, getD, drop, replicate, length-append, length-drop, length-replicate}
 use borrow.Author.Tests.{eqb-true, eqb-false, ltb-false}
-use Rattle.laws.specs.Search.{if-or, or-left, or-right}
+use Rattle.laws.specs.SearchLaws.{if-or, or-left, or-right}
 use Rattle.dependence.specs.declared.Job.{Job}
 use Rattle.dependence.specs.Job.{blankJob}
 use Rattle.jobset.specs.JobSetLaws.{has-empty}
@@ -19,8 +19,8 @@ use Rattle.engine.specs.Record.{noRun, blankRun}
 use Rattle.engine.specs.Opening.{fresh, padded, openRefused, opened, inserted, sealedWith}
 use Rattle.engine.specs.Steps.{startedOwn, startedSpeculation, reportedOwn, reportedSpeculation, committedBy}
 use Rattle.engine.specs.Perform.{perform}
-use Rattle.theorem.specs.Ledger.{Ledger, noEntry, emptyLedger, enter}
-use Rattle.theorem.specs.Trace.{eventOf, eventsOf, batchAfter, recorded, ledgerAfter}
+use Rattle.claims.specs.Ledger.{Ledger, noEntry, emptyLedger, enter}
+use Rattle.claims.specs.Trace.{eventOf, eventsOf, batchAfter, recorded, ledgerAfter, batchOf, ledgerOf}
 use Rattle.theorem.specs.Faithful.{untouched, FaithfulJob, Faithful}
 use Rattle.theorem.specs.Agreement.{moved, blank-job, inserted-kept, sealed-kept}
 use Rattle.theorem.specs.StepAgreement.{own-started-kept, speculation-started-kept, own-reported-kept, speculation-reported-kept, committed-kept}
@@ -37,7 +37,7 @@ accepted-keeps agree (reportOwn j values wrote) e = rw e (own-reported-kept agre
 accepted-keeps agree (reportSpeculation j values wrote) e = rw e (speculation-reported-kept agree j values wrote _ e)
 accepted-keeps agree (commit j) e = rw e (committed-kept agree j _ e)
 
--- "A refusal changes nothing."
+-- A refusal changes nothing (R81).
 pub refused-stays : (b : Batch) (call : Call) → eqb (perform b call .refusal) 0 ≡ false → perform b call .batch ≡ b
 unfolding perform inserted sealedWith startedOwn startedSpeculation reportedOwn reportedSpeculation committedBy
 refused-stays b (insert job) e = rw e
@@ -140,6 +140,5 @@ opened-faithful heights e =
 
 -- From an accepted opening, whatever is called.
 pub faithful-always : (heights : List ℤ) (calls : List Call) → opened heights .refusal ≡ 0
-    → Faithful (batchAfter (opened heights .batch) calls)
-    (ledgerAfter (emptyLedger heights) (eventsOf (opened heights .batch) calls))
+    → Faithful (batchOf heights calls) (ledgerOf heights calls)
 faithful-always heights calls e = faithful-after (opened-faithful heights e) calls

@@ -12,8 +12,10 @@ use lib.IntN.{ℤ}
 use lib.ListN.{length, set, length-set}
 use lib.Seq.{getD-set-other}
 use borrow.Author.Tests.{ltb-false, leb-false}
-use Rattle.laws.specs.Fold.{flag, fold-keeps}
-use Rattle.laws.specs.Refusal.{Refusal, Passed, Numbered, passed, accepted}
+use Rattle.laws.specs.Fold.{flag}
+use Rattle.laws.specs.FoldLaws.{fold-keeps}
+use Rattle.laws.specs.Refusal.{Refusal}
+use Rattle.laws.specs.RefusalLaws.{Passed, Numbered, passed, accepted}
 use Rattle.dependence.specs.declared.Job.{Job}
 use Rattle.dependence.specs.Job.{noJob}
 use Rattle.admission.specs.Admission.{jobRefusal, jobRefusals}
@@ -26,7 +28,7 @@ use Rattle.engine.specs.declared.Batch.{Batch}
 use Rattle.engine.specs.Record.{noRun, blankRun, snapshotOf}
 use Rattle.engine.specs.Opening.{refusalOn, withInserted, insertRefusal, withSealed, sealRefusal}
 use Rattle.engine.specs.Steps.{withJobChanged}
-use Rattle.theorem.specs.Ledger.{Counted, GuessEntry, Entry, noEntry, Ledger, stepEntered, enter}
+use Rattle.claims.specs.Ledger.{Counted, GuessEntry, Entry, noEntry, Ledger, stepEntered, enter}
 use Rattle.theorem.specs.Faithful.{untouched, FaithfulJob, Faithful, faithful-form}
 use Rattle.theorem.specs.Kept.{zero-sources}
 use Rattle.theorem.specs.Update.{at-or, update-same, update-other, set-same}

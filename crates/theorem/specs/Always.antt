@@ -7,7 +7,7 @@ use lib.Dec.{eqb}
 use lib.IntN.{ℤ, pos}
 use lib.ListN.{length, drop, replicate}
 use borrow.Author.Tests.{eqb-true}
-use Rattle.laws.specs.Search.{if-or}
+use Rattle.laws.specs.SearchLaws.{if-or}
 use Rattle.rules.specs.Values.{valueAt}
 use Rattle.rules.specs.Call.{Call, insert, seal, startOwn, startSpeculation, reportOwn, reportSpeculation, commit}
 use Rattle.engine.specs.declared.Batch.{Batch}
@@ -16,8 +16,8 @@ use Rattle.engine.specs.Steps.{startedOwn, startedSpeculation, reportedOwn, rep
 use Rattle.engine.specs.Perform.{perform}
 use Rattle.model.specs.State.{Invariant}
 use Rattle.model.specs.Opening.{opening-invariant}
-use Rattle.theorem.specs.Ledger.{Ledger, emptyLedger, enter}
-use Rattle.theorem.specs.Trace.{eventOf, eventsOf, batchAfter, recorded, ledgerAfter}
+use Rattle.claims.specs.Ledger.{Ledger, emptyLedger, enter}
+use Rattle.claims.specs.Trace.{eventOf, eventsOf, batchAfter, recorded, ledgerAfter, batchOf, ledgerOf}
 use Rattle.theorem.specs.After.{accepted-keeps, refused-stays, opened-faithful}
 use Rattle.theorem.specs.View.{progressFrom, speculationOf, stateOf}
 use Rattle.theorem.specs.Shaped.{ShapedEntry, nothing-shaped, present-shaped, speculative-shaped, struck-shaped}
@@ -131,8 +131,7 @@ opened-right heights e =
 
 -- From an accepted opening, whatever is called.
 pub sound-always : (heights : List ℤ) (calls : List Call) → opened heights .refusal ≡ 0
-    → Sound (batchAfter (opened heights .batch) calls)
-    (ledgerAfter (emptyLedger heights) (eventsOf (opened heights .batch) calls))
+    → Sound (batchOf heights calls) (ledgerOf heights calls)
 sound-always heights calls e =
     sound-after
     (record {

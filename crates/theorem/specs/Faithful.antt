@@ -9,7 +9,7 @@ use lib.Dec.{eqb}
 use lib.IntN.{ℤ}
 use lib.ListN.{length, getD}
 use borrow.Author.Tests.{ne-eqb, le-ltb}
-use Rattle.laws.specs.Search.{any-absent}
+use Rattle.laws.specs.SearchLaws.{any-absent}
 use Rattle.laws.specs.Fold.{flag}
 use Rattle.dependence.specs.declared.Job.{Job}
 use Rattle.dependence.specs.Job.{jobAt}
@@ -22,8 +22,8 @@ use Rattle.engine.specs.declared.Run.{Run}
 use Rattle.engine.specs.declared.Batch.{Batch}
 use Rattle.engine.specs.Record.{runAt, snapshotOf}
 use Rattle.engine.specs.Form.{countsOut, statesOut, sourceLate, originsOut, jobOut, inForm}
-use Rattle.theorem.specs.Ledger.{Report, Guess, GuessEntry, never, entered, reported, struck, Entry, noEntry, Ledger}
-use Rattle.theorem.specs.Ledger.{isSome, isCounted, countedMark, ownIsOut, guessPhase, guessBypassed, guessSource, switchIsOn, snapshotOfLedger}
+use Rattle.claims.specs.Ledger.{Report, Guess, GuessEntry, never, entered, reported, struck, Entry, noEntry, Ledger}
+use Rattle.claims.specs.Ledger.{isSome, isCounted, countedMark, ownIsOut, guessPhase, guessBypassed, guessSource, switchIsOn, snapshotOfLedger}
 use Rattle.theorem.specs.SameRefusal.{withJobs}
 
 -- A job whose own run was started has no guess any more: none was started, or it was struck out.
@@ -31,8 +31,7 @@ pub data GuessGone : GuessEntry → ℕ → Type 0 where
   never-started : GuessGone never 0
   struck-out : GuessGone struck 3
 
--- The record's run was handed these values, and holds this report: "Values reported for cells not written are ignored
--- and the handed ones stored."
+-- The record's run was handed these values, and holds this report, stored by R34.
 pub record Stored (job : Job) (run : Run) (handed : List ℤ) (r : Report) : Type 0 where
   pub handed-is : run .handed ≡ handed
   pub reported-is : run .reported ≡ storedValues job handed (r .values) (r .wrote)

@@ -1,7 +1,3 @@
-pub mod Ledger
-pub mod Replay
-pub mod Trace
-pub mod Demand3
 pub mod SameRefusal
 pub mod Faithful
 pub mod Held
@@ -22,4 +18,7 @@ pub mod Right
 pub mod Always
 pub mod Outcome
 pub mod Theorem
+pub mod StepCount
+pub mod SameJob
 pub mod SameEnd
+pub mod Chooser

@@ -17,8 +17,8 @@ use Rattle.engine.specs.declared.Batch.{Batch}
 use Rattle.model.specs.Cases.{below-or, none-some}
 use Rattle.model.specs.Column.{applied}
 use Rattle.model.specs.State.{committed, effect, effects, before, Right}
-use Rattle.theorem.specs.Ledger.{Counted, Entry, Ledger}
-use Rattle.theorem.specs.Replay.{turn, replay, leftFor}
+use Rattle.claims.specs.Ledger.{Counted, Entry, Ledger}
+use Rattle.claims.specs.Replay.{turn, replay, leftFor}
 use Rattle.theorem.specs.View.{useOf, progressFrom, progressOf, stateOf, place-named, used-below}
 use Rattle.theorem.specs.Written.{written-cell}
 use Rattle.theorem.specs.Shaped.{counted-shaped, shaped-present}
@@ -63,7 +63,7 @@ module _ {b : Batch} {l : Ledger} (sound : Sound b l) where
       x
       ∙ ap (applied (effect (useOf (l .job k) x) x (progressOf (l .job k) (l .entry k)))) (replay-at k (omega arith) x)
 
-  -- "The cells are those of the insertion-order run of what is counted so far."
+  -- R173: the cells are those of the insertion-order run of what is counted so far.
   pub cells-are-replayed : (x : ℕ) → x < length (l .heights) → valueAt (b .cells) x ≡ valueAt (replay l (l .jobCount)) x
   cells-are-replayed x h = sound .right .cells-ok x ∙ sym (replay-at (l .jobCount) (omega arith) x)
 
@@ -86,7 +86,7 @@ module _ {b : Batch} {l : Ledger} (sound : Sound b l) where
       → Right (stateOf l (b .cells)) j (λ x. valueFor (l .job j) (c .handed) x)
   counted-right j c e = rw (progress-is (l .job j) (l .entry j .own) (l .entry j .counted) c e) at (sound .right .runs j)
 
-  -- "Each counted run was handed what the jobs before it left."
+  -- R174: each counted run was handed what the jobs before it left.
   pub handed-is-left : (j : ℕ) (c : Counted) → l .entry j .counted ≡ some c → c .handed ≡ leftFor l j
   handed-is-left j c e =
       let h : j < l .jobCount = counted-below j c e in

@@ -9,8 +9,8 @@ use lib.Dec.{leb}
 use lib.IntN.{pos}
 use lib.ListN.{replicate}
 use borrow.Author.Tests.{lt-leb}
-use Rattle.laws.specs.Search.{any-absent, if-or, clash}
-use Rattle.laws.specs.Refusal.{Passed, accepted}
+use Rattle.laws.specs.SearchLaws.{any-absent, if-or, clash}
+use Rattle.laws.specs.RefusalLaws.{Passed, accepted}
 use Rattle.dependence.specs.declared.Job.{Job}
 use Rattle.dependence.specs.Job.{jobAt}
 use Rattle.rules.specs.Snapshot.{Snapshot, isOut, isStored, isLive}
@@ -24,15 +24,15 @@ use Rattle.engine.specs.Form.{inForm}
 use Rattle.engine.specs.Opening.{inserted, sealedWith}
 use Rattle.engine.specs.Steps.{startedOwn, startedSpeculation, reportedOwn, reportedSpeculation, committedBy}
 use Rattle.engine.specs.Perform.{perform}
-use Rattle.theorem.specs.Ledger.{Counted, Entry, Ledger, isSome, isCounted, ownIsOut, guessPhase, snapshotOfLedger}
-use Rattle.theorem.specs.Demand3.{judged, own-start, own-report, speculation-report, commit-step, Accepted}
+use Rattle.claims.specs.Ledger.{Counted, Entry, Ledger, isSome, isCounted, ownIsOut, guessPhase, snapshotOfLedger}
+use Rattle.claims.specs.Demand3.{judged, own-start, own-report, speculation-report, commit-step, Accepted}
 use Rattle.theorem.specs.SameRefusal.{same-refusal}
 use Rattle.theorem.specs.Faithful.{Stage, untouched, guess-out, guess-reported, own-out, own-counted, guess-counted, Faithful}
 use Rattle.theorem.specs.Faithful.{stage-committed, stage-steps, faithful-form, same-snapshot}
 use Rattle.theorem.specs.Update.{at-or}
 
 -- A call's refusal on the record: 32 for a record out of form, and else what the rules say.
-performed-refusal : (b : Batch) (call : Call) → perform b call .refusal ≡ cond (inForm b) (refusalOf (snapshotOf b) call) 32
+pub performed-refusal : (b : Batch) (call : Call) → perform b call .refusal ≡ cond (inForm b) (refusalOf (snapshotOf b) call) 32
 unfolding perform inserted sealedWith startedOwn startedSpeculation reportedOwn reportedSpeculation committedBy refusalOf
 performed-refusal b (insert job) = refl
 performed-refusal b (seal switch) = refl
@@ -53,7 +53,7 @@ stage-mark (own-counted g stored s) k e = cc
 stage-mark (guess-counted stored) k e = cc
 
 module _ {b : Batch} {l : Ledger} (agree : Faithful b l) where
-  -- Each call is accepted exactly where document 01 allows it, and refused with its number.
+  -- R170: each call is accepted exactly where the rules allow it, and else refused with their number.
   pub exact-refusal : (call : Call) → perform b call .refusal ≡ judged l call
   exact-refusal call =
       performed-refusal b call

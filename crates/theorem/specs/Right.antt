@@ -10,8 +10,8 @@ use lib.Dec.{eqb, leb}
 use lib.IntN.{ℤ}
 use lib.ListN.{length}
 use borrow.Author.Tests.{leb-false, not-false}
-use Rattle.laws.specs.Search.{clash, or-left, or-right}
-use Rattle.laws.specs.Refusal.{Passed, Numbered, passed}
+use Rattle.laws.specs.SearchLaws.{clash, or-left, or-right}
+use Rattle.laws.specs.RefusalLaws.{Passed, Numbered, passed}
 use Rattle.dependence.specs.declared.Job.{Job}
 use Rattle.dependence.specs.Job.{inUse, accessAt, jobAt}
 use Rattle.admission.specs.AdmissionLaws.{admitted-cell, admitted-distinct}
@@ -31,8 +31,8 @@ use Rattle.model.specs.State.{names, idle, running, committed, isCommitted, Sta
 use Rattle.model.specs.Actions.{discard, own-start-keeps, speculation-start-keeps, own-report-keeps}
 use Rattle.model.specs.Actions.{speculation-report-keeps, commit-keeps}
 use Rattle.model.specs.Insert.{Blank, insert-keeps}
-use Rattle.theorem.specs.Ledger.{Report, entered, Ledger, isSome, struckOut, withReport, ownCounted}
-use Rattle.theorem.specs.Ledger.{guessCounted, snapshotOfLedger, enter}
+use Rattle.claims.specs.Ledger.{Report, entered, Ledger, isSome, struckOut, withReport, ownCounted}
+use Rattle.claims.specs.Ledger.{guessCounted, snapshotOfLedger, enter}
 use Rattle.theorem.specs.Faithful.{Faithful}
 use Rattle.theorem.specs.Held.{guess-stored}
 use Rattle.theorem.specs.Promises.{exact-refusal}

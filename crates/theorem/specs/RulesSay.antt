@@ -8,8 +8,9 @@ use mathlib.Core.Path.{_≡_, refl, sym, ap, _∙_}
 use lib.IntN.{ℤ}
 use lib.ListN.{getD}
 use borrow.Author.Tests.{ne-eqb}
-use Rattle.laws.specs.Search.{anyBelow, any-found, any-fails, clash, or-true, not-true}
-use Rattle.laws.specs.Fold.{upTo-at}
+use Rattle.laws.specs.Search.{anyBelow}
+use Rattle.laws.specs.SearchLaws.{any-found, any-fails, clash, or-true, not-true}
+use Rattle.laws.specs.FoldLaws.{upTo-at}
 use Rattle.dependence.specs.declared.Job.{Job}
 use Rattle.dependence.specs.Job.{isRead, inUse, accessAt}
 use Rattle.dependence.specs.Conflict.{conflicts}
@@ -22,8 +23,8 @@ use Rattle.model.specs.Cases.{below-or, none-some}
 use Rattle.model.specs.State.{Use, absent, reads, writes, maybe, names, usesConflict}
 use Rattle.model.specs.State.{Origin, discarded, originOf, Ready, Invalid, bypassed-wrote, source-discarded, source-invalid}
 use Rattle.model.specs.StateLaws.{written-named}
-use Rattle.theorem.specs.Ledger.{GuessEntry, never, entered, reported, struck, Ledger}
-use Rattle.theorem.specs.Ledger.{isCounted, countedMark, guessPhase, guessBypassed, guessSource, snapshotOfLedger}
+use Rattle.claims.specs.Ledger.{GuessEntry, never, entered, reported, struck, Ledger}
+use Rattle.claims.specs.Ledger.{isCounted, countedMark, guessPhase, guessBypassed, guessSource, snapshotOfLedger}
 use Rattle.theorem.specs.Faithful.{Faithful}
 use Rattle.theorem.specs.View.{useOfMode, useOf, originFor, speculationOf, stateOf, progress-committed}
 use Rattle.theorem.specs.View.{progress-marked, mode-may-write}

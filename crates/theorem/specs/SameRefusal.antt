@@ -6,7 +6,8 @@ use mathlib.Core.List.{List}
 use mathlib.Core.Path.{_≡_, refl, ap, _∙_}
 use lib.Dec.{leb, ltb}
 use borrow.Author.Tests.{leb-false, ltb-true}
-use Rattle.laws.specs.Search.{anyBelow, any-same, if-or}
+use Rattle.laws.specs.Search.{anyBelow}
+use Rattle.laws.specs.SearchLaws.{any-same, if-or}
 use Rattle.laws.specs.Refusal.{Refusal, firstOf}
 use Rattle.dependence.specs.declared.Job.{Job}
 use Rattle.dependence.specs.Job.{inUse, accessAt}

@@ -8,7 +8,7 @@ use lib.Dec.{ltb, leb}
 use lib.IntN.{ℤ}
 use lib.ListN.{length, getD}
 use borrow.Author.Tests.{le-ltb, ltb-false, leb-false, le-leb}
-use Rattle.laws.specs.Search.{or-left}
+use Rattle.laws.specs.SearchLaws.{or-left}
 use Rattle.dependence.specs.declared.Job.{Job}
 use Rattle.dependence.specs.Job.{jobAt, inUse}
 use Rattle.admission.specs.AdmissionLaws.{admitted-arity}
@@ -23,7 +23,7 @@ use Rattle.engine.specs.declared.Batch.{Batch}
 use Rattle.engine.specs.Record.{runAt, snapshotOf}
 use Rattle.engine.specs.Steps.{reportedRun, ownValues, speculativeValues, sourcesNow, withOwnStarted, withSpeculationStarted, withOwnReported, withSpeculationReported, withCommitted}
 use Rattle.engine.specs.Steps.{startOwnRefusal, startSpeculationRefusal, reportOwnRefusal, reportSpeculationRefusal, commitRefusal}
-use Rattle.theorem.specs.Ledger.{Guess, Ledger, snapshotOfLedger, enter}
+use Rattle.claims.specs.Ledger.{Guess, Ledger, snapshotOfLedger, enter}
 use Rattle.theorem.specs.Faithful.{Faithful, same-snapshot}
 use Rattle.theorem.specs.Kept.{start-own-kept, start-speculation-kept, report-own-kept, report-speculation-kept, commit-kept}
 use Rattle.theorem.specs.SameRefusal.{source-same, bypassed-same}

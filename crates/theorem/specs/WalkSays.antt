@@ -8,7 +8,7 @@ use mathlib.Core.Path.{_≡_, refl, sym, ap, _∙_}
 use lib.Dec.{eqb}
 use lib.IntN.{ℤ}
 use borrow.Author.Tests.{eq-eqb, ne-eqb, eqb-true, le-leb, lt-ltb, not-false}
-use Rattle.laws.specs.Search.{any-find, any-found, any-fails, each-of-four, if-or, clash, and-left, and-right, or-left}
+use Rattle.laws.specs.SearchLaws.{any-find, any-found, any-fails, each-of-four, if-or, clash, and-left, and-right, or-left}
 use Rattle.dependence.specs.declared.Job.{Job}
 use Rattle.dependence.specs.Job.{inUse, accessAt, jobAt}
 use Rattle.admission.specs.AdmissionLaws.{admitted-distinct}
@@ -23,8 +23,8 @@ use Rattle.engine.specs.Steps.{speculativeAt, speculativeValues}
 use Rattle.model.specs.State.{Use, absent, reads, writes, maybe, names, isCommitted, reportAt}
 use Rattle.model.specs.StateLaws.{writes-named}
 use Rattle.model.specs.Walk.{stopAt, sourceBelow, firstAfter, source-met, HandedFrom, Gathered}
-use Rattle.theorem.specs.Ledger.{Report, Guess, GuessEntry, never, entered, reported, struck, Ledger}
-use Rattle.theorem.specs.Ledger.{isCounted, guessPhase, snapshotOfLedger}
+use Rattle.claims.specs.Ledger.{Report, Guess, GuessEntry, never, entered, reported, struck, Ledger}
+use Rattle.claims.specs.Ledger.{isCounted, guessPhase, snapshotOfLedger}
 use Rattle.theorem.specs.Faithful.{Faithful}
 use Rattle.theorem.specs.Held.{guess-stored}
 use Rattle.theorem.specs.StepAgreement.{sources-agree}

@@ -1,1 +1,1 @@
-//! Demand 3: one theorem about every list of calls. It has no code; specs/Demand3.antt states it.
+//! The proofs of the statements in crates/claims: one theorem for each. It has no code.

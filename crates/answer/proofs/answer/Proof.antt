@@ -1,7 +1,7 @@
 -- `answer` meets its contract: what `run` puts fits the buffer.
 use native.Mathlib.Omega.{arith}
 use borrow.Author.Needs.{needs}
-use Rattle.render.specs.Put.{put-fits}
+use Rattle.render.specs.PutLaws.{put-fits}
 use Rattle.answer.specs.Lengths.{put-counts}
 use Rattle.answer.proofs.answer.Statement.{statement}
 use Rattle.answer.proofs.answer.Tie as tie

@@ -1,6 +1,6 @@
 -- `met_by` meets its contract: the largest of what the four places meet.
-use Rattle.laws.specs.Search.{each-of-four}
-use Rattle.laws.specs.Fold.{max-four}
+use Rattle.laws.specs.SearchLaws.{each-of-four}
+use Rattle.laws.specs.FoldLaws.{max-four}
 use Rattle.passes.specs.Tables.{met}
 use borrow.Author.Needs.{needs}
 use Rattle.passes.proofs.met_by.Statement.{statement}

@@ -1,6 +1,6 @@
 -- `note` meets its contract: the four places one after the other.
 use mathlib.Core.Path.{sym}
-use Rattle.laws.specs.Fold.{fold-four}
+use Rattle.laws.specs.FoldLaws.{fold-four}
 use Rattle.passes.specs.Tables.{noted}
 use borrow.Author.Needs.{needs}
 use Rattle.passes.proofs.note.Statement.{statement}

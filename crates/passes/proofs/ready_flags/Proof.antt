@@ -2,7 +2,7 @@
 use native.Mathlib.Omega.{arith}
 use Prim.Native.Nat.{_≤_, _-_}
 use mathlib.Core.Path.{_≡_, _∙_}
-use Rattle.laws.specs.Fold.{column-min}
+use Rattle.laws.specs.FoldLaws.{column-min}
 use Rattle.passes.specs.ReadyPass.{ReadyPass, ready-start, ready-step}
 use Rattle.passes.proofs.ready_flags.Statement.{statement}
 use Rattle.passes.proofs.ready_flags.Tie as tie

@@ -4,8 +4,8 @@ use native.Mathlib.Omega.{arith}
 use mathlib.Core.Path.{_∙_}
 use borrow.Fn.Kinds.{In}
 use borrow.Fn.PlainCycle.{Measures, is, falls, and}
-use Rattle.render.specs.Put.{put-then, put-long}
-use Rattle.render.specs.Text.{decimal-one, decimal-more}
+use Rattle.render.specs.PutLaws.{put-then, put-long}
+use Rattle.render.specs.TextLaws.{decimal-one, decimal-more}
 use Rattle.render.proofs.put_count.Reads as put-count
 use Rattle.render.proofs.put_count.Kinds as put-count-kinds
 use Rattle.render.proofs.+put_count.Lts-put_count as put-count-lts

@@ -1,6 +1,6 @@
 -- `put_fault` meets its contract: the line of names, and the line of values after it.
 use borrow.Author.Needs.{needs}
-use Rattle.render.specs.Put.{put-then}
+use Rattle.render.specs.PutLaws.{put-then}
 use Rattle.render.proofs.put_fault.Statement.{statement}
 use Rattle.render.proofs.put_fault.Tie as tie
 

@@ -1,8 +1,8 @@
 -- `put_height` meets its contract: the test of the sign says which form the height's text has.
 use borrow.Author.Needs.{needs}
 use Rattle.laws.specs.Signed.{back}
-use Rattle.render.specs.Put.{put-then}
-use Rattle.render.specs.Text.{height-below, height-from}
+use Rattle.render.specs.PutLaws.{put-then}
+use Rattle.render.specs.TextLaws.{height-below, height-from}
 use Rattle.render.proofs.Sign.{tested}
 use Rattle.render.proofs.put_height.Statement.{statement}
 use Rattle.render.proofs.put_height.Tie as tie

@@ -1,7 +1,7 @@
 -- `put_height_line` meets its contract: its four texts are the line's.
 use borrow.Author.Needs.{needs}
 use Rattle.laws.specs.Signed.{back}
-use Rattle.render.specs.Put.{put-then}
+use Rattle.render.specs.PutLaws.{put-then}
 use Rattle.render.proofs.put_height_line.Statement.{statement}
 use Rattle.render.proofs.put_height_line.Tie as tie
 

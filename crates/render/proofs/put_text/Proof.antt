@@ -6,7 +6,8 @@ use mathlib.Core.Path.{_≡_}
 use denote.Ref.{now}
 use lib.ListN.{length, take}
 use lib.Seq.{take-suc, take-length}
-use Rattle.render.specs.Put.{Put, put-then, put-none, put-long}
+use Rattle.render.specs.Put.{Put}
+use Rattle.render.specs.PutLaws.{put-then, put-none, put-long}
 use Rattle.render.proofs.put_text.Statement.{statement}
 use Rattle.render.proofs.put_text.Tie as tie
 

@@ -1,6 +1,6 @@
 -- `put_triple` meets its contract: a count and a space before a line of two.
 use borrow.Author.Needs.{needs}
-use Rattle.render.specs.Put.{put-then}
+use Rattle.render.specs.PutLaws.{put-then}
 use Rattle.render.proofs.put_triple.Statement.{statement}
 use Rattle.render.proofs.put_triple.Tie as tie
 

@@ -1,6 +1,6 @@
 -- `put_two_counts` meets its contract: its four texts are the line's.
 use borrow.Author.Needs.{needs}
-use Rattle.render.specs.Put.{put-then}
+use Rattle.render.specs.PutLaws.{put-then}
 use Rattle.render.proofs.put_two_counts.Statement.{statement}
 use Rattle.render.proofs.put_two_counts.Tie as tie
 

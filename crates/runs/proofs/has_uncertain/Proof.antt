@@ -3,7 +3,8 @@ use Prim.Native.Nat.{_≤_, _-_}
 use native.Mathlib.Omega.{arith}
 use mathlib.Core.Bool.{false, _&&_}
 use mathlib.Core.Path.{_≡_}
-use Rattle.laws.specs.Search.{anyBelow, any-none, found, passed, missed}
+use Rattle.laws.specs.Search.{anyBelow}
+use Rattle.laws.specs.SearchLaws.{any-none, found, passed, missed}
 use Rattle.dependence.specs.Job.{inUse, accessAt}
 use Rattle.rules.specs.Values.{isUncertain}
 use Rattle.runs.proofs.has_uncertain.Statement.{statement}

@@ -1,6 +1,6 @@
 -- `write_back` meets its contract: the four places one after the other.
 use mathlib.Core.Path.{sym}
-use Rattle.laws.specs.Fold.{fold-four}
+use Rattle.laws.specs.FoldLaws.{fold-four}
 use Rattle.rules.specs.Values.{writeBack}
 use borrow.Author.Needs.{needs}
 use Rattle.runs.proofs.write_back.Statement.{statement}

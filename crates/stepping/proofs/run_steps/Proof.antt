@@ -8,7 +8,8 @@ use lib.ListN.{length, drop, drop-of-length-le}
 use borrow.Author.Needs.{needs}
 use Rattle.text.specs.Pieces.{lineFeed, pieces}
 use Rattle.text.specs.PieceLaws.{last-piece, next-piece}
-use Rattle.render.specs.Put.{Put, put-then, put-none, put-long}
+use Rattle.render.specs.Put.{Put}
+use Rattle.render.specs.PutLaws.{put-then, put-none, put-long}
 use Rattle.stepping.specs.Stepping.{stepsText, batchAfterLines}
 use Rattle.stepping.specs.SteppingLaws.{no-lines, text-next, after-next, text-last, after-last}
 use Rattle.stepping.proofs.run_steps.Statement.{statement}

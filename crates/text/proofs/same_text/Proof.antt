@@ -5,7 +5,8 @@ use mathlib.Core.Path.{_≡_, refl, sym, _∙_}
 use lib.ListN.{length, drop}
 use denote.Ref.{now}
 use borrow.Author.Tests.{eq-eqb, ne-eqb}
-use Rattle.text.specs.SameText.{sameText, same-at, same-end, same-long}
+use Rattle.text.specs.SameText.{sameText}
+use Rattle.text.specs.SameTextLaws.{same-at, same-end, same-long}
 use Rattle.text.proofs.same_text.Statement.{statement}
 use Rattle.text.proofs.same_text.Tie as tie
 

@@ -3,7 +3,8 @@ use native.Mathlib.Omega.{arith}
 use Prim.Native.Nat.{_≤_, _-_}
 use mathlib.Core.Bool.{false}
 use mathlib.Core.Path.{_≡_}
-use Rattle.laws.specs.Search.{anyBelow, any-none, found, passed, missed}
+use Rattle.laws.specs.Search.{anyBelow}
+use Rattle.laws.specs.SearchLaws.{any-none, found, passed, missed}
 use Rattle.walk.specs.Sources.{writesAt}
 use Rattle.walk.proofs.writes_cell.Statement.{statement}
 use Rattle.walk.proofs.writes_cell.Tie as tie

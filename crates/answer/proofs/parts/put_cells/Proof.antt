@@ -8,7 +8,8 @@ use mir.Facts.{toZ-ofZ}
 use lib.ListN.{length}
 use borrow.Author.Needs.{needs}
 use Rattle.render.specs.Text.{heightLine}
-use Rattle.render.specs.Put.{Put, put-then, put-none, put-long}
+use Rattle.render.specs.Put.{Put}
+use Rattle.render.specs.PutLaws.{put-then, put-none, put-long}
 use Rattle.answer.specs.Output.{linesBelow, cellLine, cellsText}
 use Rattle.answer.specs.Lengths.{below-more, below-length, byte-and-height}
 use Rattle.answer.proofs.parts.put_cells.Statement.{statement}

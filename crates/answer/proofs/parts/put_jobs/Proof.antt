@@ -4,7 +4,8 @@ use native.Mathlib.Omega.{arith}
 use mathlib.Core.Path.{_≡_}
 use lib.ListN.{length}
 use borrow.Author.Needs.{needs}
-use Rattle.render.specs.Put.{Put, put-then, put-none, put-long}
+use Rattle.render.specs.Put.{Put}
+use Rattle.render.specs.PutLaws.{put-then, put-none, put-long}
 use Rattle.answer.specs.Output.{linesBelow, jobLine, jobsText}
 use Rattle.answer.specs.Lengths.{below-more, below-length, three-bytes}
 use Rattle.answer.proofs.parts.put_jobs.Statement.{statement}

@@ -1,6 +1,6 @@
 -- `put_parts` meets its contract: six texts one after the other.
 use borrow.Author.Needs.{needs}
-use Rattle.render.specs.Put.{put-then}
+use Rattle.render.specs.PutLaws.{put-then}
 use Rattle.answer.specs.Output.{partsText}
 use Rattle.answer.specs.Lengths.{parts-length}
 use Rattle.answer.proofs.parts.put_parts.Statement.{statement}

@@ -4,7 +4,8 @@ use Prim.Native.Nat.{_≤_, _-_}
 use mathlib.Core.Bool.{false}
 use mathlib.Core.Path.{_≡_, refl, sym}
 use borrow.Author.Tests.{eq-eqb, ne-eqb}
-use Rattle.laws.specs.Search.{anyBelow, any-none, any-found, any-more, missed}
+use Rattle.laws.specs.Search.{anyBelow}
+use Rattle.laws.specs.SearchLaws.{any-none, any-found, any-more, missed}
 use Rattle.engine.specs.Ask.{uncommittedAt}
 use Rattle.engine.proofs.Batch.any_uncommitted.Statement.{statement}
 use Rattle.engine.proofs.Batch.any_uncommitted.Tie as tie

@@ -1,5 +1,5 @@
 -- `Batch::cell_refusal` meets its contract.
-use Rattle.laws.specs.Refusal.{first, hit, skip, none}
+use Rattle.laws.specs.RefusalLaws.{first, hit, skip, none}
 use borrow.Author.Tests.{le-leb, lt-leb}
 use borrow.Author.Needs.{needs}
 use Rattle.engine.specs.Ask.{cellRefusal}

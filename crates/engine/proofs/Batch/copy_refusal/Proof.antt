@@ -2,7 +2,7 @@
 use native.Mathlib.Omega.{arith}
 use Prim.Native.Nat.{_-_}
 use mathlib.Core.Path.{sym, _∙_}
-use Rattle.laws.specs.Refusal.{first, hit, skip, none}
+use Rattle.laws.specs.RefusalLaws.{first, hit, skip, none}
 use borrow.Author.Tests.{lt-ltb, le-ltb}
 use Rattle.engine.specs.FormLaws.{form-counts}
 use borrow.Author.Needs.{needs}

@@ -1,5 +1,5 @@
 -- `Batch::insert_refusal` meets its contract.
-use Rattle.laws.specs.Refusal.{first, hit, skip, first-of}
+use Rattle.laws.specs.RefusalLaws.{first, hit, skip, first-of}
 use mathlib.Core.Bool.{not}
 use mathlib.Core.Path.{ap}
 use borrow.Author.Tests.{le-leb, lt-leb, eq-eqb, ne-eqb}

@@ -4,7 +4,7 @@ use Prim.Native.Nat.{_≤_, _-_}
 use mathlib.Core.Path.{_≡_, refl, ap, _∙_}
 use lib.ListN.{length}
 use borrow.Author.Needs.{needs}
-use Rattle.laws.specs.Fold.{length-column}
+use Rattle.laws.specs.FoldLaws.{length-column}
 use Rattle.engine.specs.InvalidPass.{InvalidPass, invalid-start, invalid-step}
 use Rattle.engine.proofs.Batch.invalid_flags.Statement.{statement}
 use Rattle.engine.proofs.Batch.invalid_flags.Tie as tie

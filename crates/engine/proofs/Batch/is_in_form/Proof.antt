@@ -4,7 +4,8 @@ use borrow.Author.Needs.{needs}
 use Prim.Native.Nat.{_≤_, _-_}
 use mathlib.Core.Bool.{false}
 use mathlib.Core.Path.{_≡_, refl, sym, _∙_}
-use Rattle.laws.specs.Search.{anyBelow, any-none, any-found, passed, missed}
+use Rattle.laws.specs.Search.{anyBelow}
+use Rattle.laws.specs.SearchLaws.{any-none, any-found, passed, missed}
 use Rattle.engine.specs.Form.{jobOut, inForm}
 use Rattle.engine.specs.FormLaws.{counts-in}
 use Rattle.engine.proofs.Batch.is_in_form.Statement.{statement}

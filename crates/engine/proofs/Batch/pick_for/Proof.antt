@@ -5,7 +5,7 @@ use Prim.Native.Nat.{_≤_, _<_, _+_, _-_}
 use mathlib.Core.Logic.{⊎-elim}
 use mathlib.Core.Path.{_≡_, refl, ap, _∙_}
 use lib.ListN.{length}
-use Rattle.laws.specs.Fold.{length-column}
+use Rattle.laws.specs.FoldLaws.{length-column}
 use Rattle.rules.specs.Speculation.{sourceMissing}
 use Rattle.walk.specs.Nearest.{nearestBefore}
 use Rattle.walk.specs.NearestLaws.{nearest-none, nearest-more, nearest-sources}

@@ -1,5 +1,5 @@
 -- `Batch::seal_refusal` meets its contract.
-use Rattle.laws.specs.Refusal.{first, hit, skip, none}
+use Rattle.laws.specs.RefusalLaws.{first, hit, skip, none}
 use mathlib.Core.Bool.{not}
 use mathlib.Core.Path.{ap}
 use borrow.Author.Tests.{lt-ltb, le-ltb, eq-eqb, ne-eqb}

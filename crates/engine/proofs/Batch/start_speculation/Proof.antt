@@ -5,7 +5,7 @@ use Rattle.engine.specs.Steps.{startSpeculationRefusal, startedSpeculati
 use Rattle.engine.specs.StepLaws.{refused-early, place-of, held-of, few-of, own-tests, ready-is, speculation-accepted}
 use Rattle.engine.specs.SourceLimit.{sources-held}
 use Rattle.engine.specs.SourceMissing.{missing-is}
-use Rattle.laws.specs.Fold.{length-column}
+use Rattle.laws.specs.FoldLaws.{length-column}
 use lib.ListN.{length}
 use mathlib.Core.Path.{_≡_, ap, sym, _∙_}
 use borrow.Author.Needs.{needs}

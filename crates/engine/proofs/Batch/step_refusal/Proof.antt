@@ -2,7 +2,7 @@
 use mathlib.Core.Bool.{not}
 use mathlib.Core.Path.{ap}
 use borrow.Author.Tests.{le-leb, lt-leb, eq-eqb, ne-eqb}
-use Rattle.laws.specs.Refusal.{first, hit, skip, none}
+use Rattle.laws.specs.RefusalLaws.{first, hit, skip, none}
 use borrow.Author.Needs.{needs}
 use Rattle.engine.proofs.Batch.step_refusal.Statement.{statement}
 use Rattle.engine.proofs.Batch.step_refusal.Tie as tie

@@ -3,7 +3,8 @@ use native.Mathlib.Omega.{arith}
 use Prim.Native.Nat.{_≤_, _-_}
 use mathlib.Core.Bool.{false}
 use mathlib.Core.Path.{_≡_, sym, _∙_}
-use Rattle.laws.specs.Search.{anyBelow, any-none, any-found, passed, missed}
+use Rattle.laws.specs.Search.{anyBelow}
+use Rattle.laws.specs.SearchLaws.{any-none, any-found, passed, missed}
 use Rattle.engine.specs.Form.{sourceLate}
 use Rattle.engine.proofs.form.origins_out.Statement.{statement}
 use Rattle.engine.proofs.form.origins_out.Tie as tie

@@ -1,5 +1,5 @@
 -- `first_of_four` meets its contract.
-use Rattle.laws.specs.Refusal.{first, hit, skip, first-of}
+use Rattle.laws.specs.RefusalLaws.{first, hit, skip, first-of}
 use borrow.Author.Needs.{needs}
 use Rattle.engine.proofs.steps.first_of_four.Statement.{statement}
 use Rattle.engine.proofs.steps.first_of_four.Tie as tie

@@ -1,5 +1,5 @@
 -- `first_of_two` meets its contract.
-use Rattle.laws.specs.Refusal.{first, hit, skip, none}
+use Rattle.laws.specs.RefusalLaws.{first, hit, skip, none}
 use Rattle.engine.proofs.steps.first_of_two.Statement.{statement}
 use Rattle.engine.proofs.steps.first_of_two.Tie as tie
 

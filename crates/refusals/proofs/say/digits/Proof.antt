@@ -10,7 +10,7 @@ use borrow.Author.Tests.{ltb-true}
 use mir.Facts.{toZ-ofZ}
 use mir.Syntax.{w32, w64}
 use mir.Val.{Fits, SFits}
-use Rattle.laws.specs.Search.{clash}
+use Rattle.laws.specs.SearchLaws.{clash}
 use Rattle.laws.specs.Signed.{diff-fits, widens, widened}
 use Rattle.refusals.proofs.say.digits.Statement.{statement}
 use Rattle.refusals.proofs.say.digits.Tie as tie

@@ -1,7 +1,7 @@
 -- `note_job` meets its contract: the four places one after the other.
 use mathlib.Core.Path.{sym}
 use borrow.Author.Tests.{eq-eqb, ne-eqb}
-use Rattle.laws.specs.Fold.{fold-four}
+use Rattle.laws.specs.FoldLaws.{fold-four}
 use Rattle.walk.specs.Nearest.{jobNoted}
 use borrow.Author.Needs.{needs}
 use Rattle.walk.proofs.nearest.note_job.Statement.{statement}

@@ -1,5 +1,5 @@
 -- `sources_by` meets its contract: the four places one after the other.
-use Rattle.laws.specs.Search.{each-of-four}
+use Rattle.laws.specs.SearchLaws.{each-of-four}
 use borrow.Author.Needs.{needs}
 use Rattle.walk.proofs.nearest.sources_by.Statement.{statement}
 use Rattle.walk.proofs.nearest.sources_by.Tie as tie

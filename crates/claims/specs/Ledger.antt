@@ -1,6 +1,5 @@
--- The ledger: a plain definition over the list of calls alone.
--- Document 01: "each call's arguments, whether it was accepted, and the four values that a start handed out. Nothing is
--- copied from the batch record. It starts with the heights given to the opening and no jobs."
+-- R162: the ledger, computed from the list of calls alone: their arguments, whether they were accepted, and the four values
+-- that a start handed out. Nothing is read from the batch record. It begins with the heights given to the opening and no jobs.
 use Prim.Native.Nat.{ℕ, suc}
 use native.Mathlib.Decide.{ℕ-discrete}
 use mathlib.Core.Bool.{Bool, true, false, not, _&&_}
@@ -20,7 +19,7 @@ pub record Report : Type 0 where
   pub values : List ℤ
   pub wrote : ℕ
 
--- A counted run and its report.
+-- R56: a counted run and its report.
 pub record Counted : Type 0 where
   pub handed : List ℤ
   pub report : Report
@@ -66,7 +65,7 @@ abbrev pub isSome {ℓ} : {A : Type ℓ} → Option A → Bool
 isSome none = false
 isSome (some a) = true
 
--- "A job is settled once it has a counted report."
+-- R164: a job is settled once it has a counted report.
 abbrev pub isCounted : Entry → Bool
 isCounted e = isSome (e .counted)
 
@@ -121,33 +120,33 @@ snapshotOfLedger l =
 abbrev pub update {ℓ} : {A : Type ℓ} → (ℕ → A) → ℕ → A → ℕ → A
 update f j a i = elim (ℕ-discrete i j) [ yes p ↦ a | no p ↦ f i ]
 
--- "the job's guess, if there is one, is struck out"
+-- 0: the guess of the job, if it has one, is struck out.
 abbrev pub struckOut : GuessEntry → GuessEntry
 struckOut never = never
 struckOut (entered g) = struck
 struckOut (reported g r) = struck
 struckOut struck = struck
 
--- "the report is entered beside the guess"
+-- 3: the report is entered beside the guess.
 abbrev pub withReport : GuessEntry → Report → GuessEntry
 withReport never r = never
 withReport (entered g) r = reported g r
 withReport (reported g r′) r = reported g r′
 withReport struck r = struck
 
--- "the own run and this report become the job's counted run and report"
+-- 2: the own run and this report become the counted ones.
 abbrev pub ownCounted : Option (List ℤ) → Report → Option Counted
 ownCounted none r = none
 ownCounted (some handed) r = some (record { handed = handed; report = r })
 
--- "the guess and its report become the counted ones"
+-- 4: the guess and its report become the counted ones.
 abbrev pub guessCounted : GuessEntry → Option Counted
 guessCounted never = none
 guessCounted (entered g) = none
 guessCounted (reported g r) = some (record { handed = g .handed; report = r })
 guessCounted struck = none
 
--- "Each accepted step also adds one to its job's steps."
+-- R163: each accepted step adds one to its job's steps.
 abbrev pub stepEntered : Ledger → ℕ → Option (List ℤ) → GuessEntry → Option Counted → Ledger
 stepEntered l j own guess counted =
     record {

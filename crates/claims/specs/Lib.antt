@@ -1,0 +1,7 @@
+pub mod Ledger
+pub mod Replay
+pub mod Trace
+pub mod Demand3
+pub mod StepCount
+pub mod SameEnd
+pub mod Chooser

@@ -1,0 +1,223 @@
+-- Laws of folds, maxima and columns.
+use Prim.Native.Nat.{ℕ, zero, suc, _+_, _-_, _<_, _≤_, max, min}
+use native.Mathlib.Omega.{arith}
+use native.Mathlib.Numerals.{add-one}
+use native.Mathlib.Nat.{sub-zero, suc-sub-suc, eq-or-lt-of-le}
+use mathlib.Core.Logic.{⊎-elim, _≢_}
+use mathlib.Core.Bool.{Bool, true, false, cond, _&&_, _||_}
+use mathlib.Core.List.{List, [], _∷_, _++_, append-assoc}
+use mathlib.Core.Path.{_≡_, refl, sym, _∙_}
+use lib.Dec.{eqb}
+use lib.ListN.{length, getD, set, drop, replicate, length-append, length-set, length-replicate, List·getD-append}
+use lib.Seq.{set-at, getD-at, drop-at, drop-cons, drop-set-lt, getD-set-same, getD-set-other}
+use borrow.Author.Tests.{eqb-true, eqb-false}
+use Rattle.laws.specs.Search.{anyBelow}
+use Rattle.laws.specs.SearchLaws.{if-or}
+use Rattle.laws.specs.Fold.{foldBelow, maxBelow, flag, upTo, column}
+
+pub fold-none : {A : Type 0} (f : ℕ → A → A) (a : A) → foldBelow 0 f a ≡ a
+unfolding foldBelow
+fold-none f a = refl
+
+pub fold-more : {A : Type 0} (n : ℕ) (f : ℕ → A → A) (a : A) → foldBelow (n + 1) f a ≡ f n (foldBelow n f a)
+unfolding foldBelow
+fold-more n f a = rw add-one
+
+-- What every change keeps, the fold keeps.
+pub fold-keeps : {A B : Type 0} (n : ℕ) (f : ℕ → A → A) (g : A → B)
+    → ((i : ℕ) (a : A) → g (f i a) ≡ g a) → (a : A) → g (foldBelow n f a) ≡ g a
+unfolding foldBelow
+fold-keeps zero f g h a = refl
+fold-keeps (suc n) f g h a = h n (foldBelow n f a) ∙ fold-keeps n f g h a
+
+pub max-none : (f : ℕ → ℕ) → maxBelow 0 f ≡ 0
+unfolding maxBelow
+max-none f = refl
+
+pub max-more : (n : ℕ) (f : ℕ → ℕ) → maxBelow (n + 1) f ≡ max (f n) (maxBelow n f)
+unfolding maxBelow
+max-more n f = rw add-one
+
+pub max-same : (n : ℕ) (f g : ℕ → ℕ) → ((i : ℕ) → i < n → f i ≡ g i) → maxBelow n f ≡ maxBelow n g
+unfolding maxBelow
+max-same zero f g h = refl
+max-same (suc n) f g h = rw (h n (omega arith), max-same n f g (λ i l. h i (omega arith)))
+
+-- The largest of tests is whether one of them holds.
+pub max-flags : (n : ℕ) (p : ℕ → Bool) → maxBelow n (λ i. flag (p i)) ≡ flag (anyBelow n p)
+unfolding maxBelow anyBelow
+max-flags zero p = refl
+max-flags (suc n) p = rw (max-flags n p) (cases (p n) (anyBelow n p))
+  where
+    cases : (s t : Bool) → max (flag s) (flag t) ≡ flag (s || t)
+    cases true true = refl
+    cases true false = refl
+    cases false true = refl
+    cases false false = refl
+
+pub length-upTo : {A : Type 0} (n : ℕ) (f : ℕ → A) → length (upTo n f) ≡ n
+unfolding upTo
+length-upTo zero f = refl
+length-upTo (suc n) f = length-append (upTo n f) (f n ∷ []) ∙ rw (length-upTo n f) (add-one n)
+
+pub upTo-at : {A : Type 0} (n j : ℕ) (f : ℕ → A) (z : A) → j < n → getD (upTo n f) j z ≡ f j
+unfolding upTo
+upTo-at zero j f z h = absurd (omega arith)
+upTo-at (suc n) j f z h =
+    let le : j ≤ n = omega arith in
+    ⊎-elim (λ (e : j ≡ n). rw e (getD-at (upTo n f) (f n) [] z n (length-upTo n f)))
+    (λ (l : j < n). List·getD-append (upTo n f) (f n ∷ []) z j (rw (length-upTo n f) l) ∙ upTo-at n j f z l)
+    (eq-or-lt-of-le le)
+
+pub column-at : {A : Type 0} (size n j : ℕ) (f : ℕ → A) (z d : A) → j < n → j < size → getD (column size n f z) j d ≡ f j
+unfolding column
+column-at size n j f z d h k =
+    let low : j < min n size = omega arith in
+    List·getD-append (upTo (min n size) f) (replicate (size - n) z) d j (rw (length-upTo (min n size) f) low)
+    ∙ upTo-at (min n size) j f d low
+
+pub length-column : {A : Type 0} (size n : ℕ) (f : ℕ → A) (z : A) → length (column size n f z) ≡ size
+unfolding column
+length-column size n f z =
+    length-append (upTo (min n size) f) (replicate (size - n) z)
+    ∙ rw (length-upTo (min n size) f, length-replicate (size - n) z) (omega arith)
+
+-- Read with z where nothing stands, the array is the list of its values.
+getD-blank : {A : Type 0} (m i : ℕ) (z : A) → getD (replicate m z) i z ≡ z
+getD-blank zero i z = refl
+getD-blank (suc m) zero z = refl
+getD-blank (suc m) (suc i) z = getD-blank m i z
+
+getD-padded : {A : Type 0} (l : List A) (m i : ℕ) (z : A) → getD (l ++ replicate m z) i z ≡ getD l i z
+getD-padded [] m i z = getD-blank m i z
+getD-padded (a ∷ l) m zero z = refl
+getD-padded (a ∷ l) m (suc i) z = getD-padded l m i z
+
+pub column-get : {A : Type 0} (size n i : ℕ) (f : ℕ → A) (z : A) → n ≤ size → getD (column size n f z) i z ≡ getD (upTo n f) i z
+unfolding column
+column-get size n i f z h =
+    let e : min n size ≡ n = omega arith in
+    rw e (getD-padded (upTo n f) (size - n) i z)
+
+-- More places than the array has are as many as it has.
+pub column-min : {A : Type 0} (size n : ℕ) (f : ℕ → A) (z : A) → column size (min n size) f z ≡ column size n f z
+unfolding column
+column-min size n f z =
+    let front : min (min n size) size ≡ min n size = omega arith in
+    let rest : size - min n size ≡ size - n = omega arith in
+    rw (front, rest)
+
+-- A loop that fills the array from its first place on: the blank array, one more value, the whole.
+
+pub column-none : {A : Type 0} (size : ℕ) (f : ℕ → A) (z : A) → replicate size z ≡ column size 0 f z
+unfolding column upTo
+column-none size f z =
+    let e : min 0 size ≡ 0 = omega arith in
+    rw (e, sub-zero)
+
+replicate-next : {A : Type 0} (m i : ℕ) (z : A) → i < m → replicate (m - i) z ≡ z ∷ replicate (m - (i + 1)) z
+replicate-next m i z h =
+    let e : m - i ≡ suc (m - (i + 1)) = omega arith in
+    rw e
+
+pub column-more : {A : Type 0} (size i : ℕ) (f : ℕ → A) (z : A) → i < size
+    → set (column size i f z) i (f i) ≡ column size (i + 1) f z
+unfolding column upTo
+column-more size i f z h =
+    let here : min i size ≡ i = omega arith in
+    let next : min (i + 1) size ≡ suc i = omega arith in
+    rw (
+      here,
+      next,
+      replicate-next size i z h,
+      set-at (upTo i f) z (replicate (size - (i + 1)) z) (f i) i (length-upTo i f),
+    )
+    (sym (append-assoc (upTo i f) (f i ∷ []) (replicate (size - (i + 1)) z)))
+
+-- A loop that fills it from its last place back: what the array holds from place k on.
+
+drop-replicate : {A : Type 0} (m n : ℕ) (z : A) → n ≤ m → drop n (replicate m z) ≡ replicate (m - n) z
+drop-replicate m zero z h = rw sub-zero
+drop-replicate zero (suc n) z h = absurd (omega arith)
+drop-replicate (suc m) (suc n) z h = drop-replicate m n z (omega arith) ∙ rw suc-sub-suc
+
+pub back-none : {A : Type 0} (size n : ℕ) (f : ℕ → A) (z : A)
+    → drop (min n size) (replicate size z) ≡ drop (min n size) (column size n f z)
+unfolding column
+back-none size n f z =
+    let e : size - min n size ≡ size - n = omega arith in
+    drop-replicate size (min n size) z (omega arith)
+    ∙ rw e (sym (drop-at (upTo (min n size) f) (replicate (size - n) z) (min n size) (length-upTo (min n size) f)))
+
+pub back-more : {A : Type 0} (out target : List A) (j : ℕ) (a z : A) → j < length out → length out ≡ length target
+    → drop (suc j) out ≡ drop (suc j) target → a ≡ getD target j z → drop j (set out j a) ≡ drop j target
+back-more out target j a z h k e f =
+    rw (
+      drop-cons (set out j a) j z (simp length-set h),
+      getD-set-same out j a z h,
+      drop-set-lt (suc j) out j a (omega arith),
+      e,
+      f,
+      drop-cons target j z (omega arith),
+    )
+
+-- A table changed at some of its places, one after the other: for each i that satisfies p, by f at place i.
+
+abbrev pub changeAt : (ℕ → Bool) → (ℕ → ℕ) → (ℕ → ℕ) → ℕ → List ℕ → List ℕ
+changeAt p place f i table = cond (p i) (set table (place i) (f (getD table (place i) 0))) table
+
+module _ (p : ℕ → Bool) (place f : ℕ → ℕ) where
+  change-long : (i : ℕ) (table : List ℕ) → length (changeAt p place f i table) ≡ length table
+  change-long i table = cases (p i)
+    where
+      cases : (t : Bool) → length (cond t (set table (place i) (f (getD table (place i) 0))) table) ≡ length table
+      cases true = length-set table (place i) (f (getD table (place i) 0))
+      cases false = refl
+
+  pub changed-long : (n : ℕ) (table : List ℕ) → length (foldBelow n (changeAt p place f) table) ≡ length table
+  changed-long n table = fold-keeps n (changeAt p place f) length change-long table
+
+  change-get : (i : ℕ) (table : List ℕ) (x : ℕ) → x < length table
+      → getD (changeAt p place f i table) x 0 ≡ cond (p i && eqb x (place i)) (f (getD table x 0)) (getD table x 0)
+  change-get i table x h =
+      if-or (eqb x (place i))
+      (λ t. rw (t, ← eqb-true x (place i) t) (here (p i)))
+      (λ e. rw e (there (eqb-false x (place i) e) (p i)))
+    where
+      here : (t : Bool) → getD (cond t (set table x (f (getD table x 0))) table) x 0 ≡ cond (t && true) (f (getD table x 0)) (getD table x 0)
+      here true = getD-set-same table x (f (getD table x 0)) 0 h
+      here false = refl
+
+      there : x ≢ place i → (t : Bool)
+          → getD (cond t (set table (place i) (f (getD table (place i) 0))) table) x 0
+          ≡ cond (t && false) (f (getD table x 0)) (getD table x 0)
+      there n true = getD-set-other table (place i) x (f (getD table (place i) 0)) 0 n
+      there n false = refl
+
+  -- What stands at x then, where a second change by f changes nothing more.
+  pub changed-get : ((v : ℕ) → f (f v) ≡ f v) → (n : ℕ) (table : List ℕ) (x : ℕ) → x < length table
+      → getD (foldBelow n (changeAt p place f) table) x 0
+      ≡ cond (anyBelow n (λ i. p i && eqb x (place i))) (f (getD table x 0)) (getD table x 0)
+  unfolding foldBelow anyBelow
+  changed-get again zero table x h = refl
+  changed-get again (suc n) table x h =
+      change-get n (foldBelow n (changeAt p place f) table) x (rw (changed-long n table) h)
+      ∙ rw (changed-get again n table x h)
+      (cases (p n && eqb x (place n)) (anyBelow n (λ i. p i && eqb x (place i))) (getD table x 0))
+    where
+      cases : (s t : Bool) (v : ℕ) → cond s (f (cond t (f v) v)) (cond t (f v) v) ≡ cond (s || t) (f v) v
+      cases true true v = again v
+      cases true false v = refl
+      cases false t v = refl
+
+-- Four values one after the other are a fold, or a maximum, below 4.
+
+pub fold-four : {A : Type 0} (f : ℕ → A → A) (a : A) → foldBelow 4 f a ≡ f 3 (f 2 (f 1 (f 0 a)))
+unfolding foldBelow
+fold-four f a = refl
+
+pub max-four : (f : ℕ → ℕ) → max (f 3) (max (f 2) (max (f 1) (f 0))) ≡ maxBelow 4 f
+unfolding maxBelow
+max-four f =
+    let e : max (f 0) 0 ≡ f 0 = omega arith in
+    rw e
