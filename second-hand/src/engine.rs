@@ -56,8 +56,8 @@ pub enum Own {
     Reported,
 }
 
-/// How far a job's guess has come (R40). R94 has a kept guess as stored; here it
-/// has a name of its own.
+/// How far a job's guess has come (R40). R55: one by which its job is settled
+/// stays stored; here it has a name of its own.
 #[derive(Clone, Copy, Debug, PartialEq, Eq)]
 pub enum GuessState {
     /// The run is out.
@@ -513,7 +513,8 @@ impl Batch {
         Ok(handed)
     }
 
-    /// R53: writes the report into the cells, and the job is settled.
+    /// R53: writes the report into the cells, and the job is settled. R19: any
+    /// well-formed report, whatever the kind.
     pub fn report_own(&mut self, number: u32, report: Report) -> Result<(), u32> {
         self.check_report_own(number, report.mark)?;
         let job = number as usize;

@@ -44,8 +44,8 @@ const THROWN_AWAY: u8 = 3;
 const ZEROS: [i32; 4] = [0; 4];
 
 /// R90: a batch. R92: only the first `cell_count` cells and the first `job_count`
-/// places of each column are looked at. The bytes between the fields are not held
-/// at all.
+/// places of each column are looked at, and the bytes between the fields, which
+/// mean nothing, are not held at all.
 #[derive(Clone, PartialEq, Eq, Debug)]
 pub struct Record {
     pub cell_count: u8,
@@ -437,7 +437,7 @@ impl<'a> Rules<'a> {
         by_one != 0 || by_other != 0
     }
 
-    /// R93: where the number says how.
+    /// R93: where the number that says how is 1 or 2.
     fn is_settled(&self, job: usize) -> bool {
         self.record.committed[job] != NOT_SETTLED
     }
@@ -622,7 +622,7 @@ impl Rules<'_> {
 // The steps
 
 impl Record {
-    /// The step with this number on the job: 0 or the refusal, and the values
+    /// R50: the step with this number on the job: 0 or the refusal, and the values
     /// handed out, or four zeros where none are.
     pub fn step(&mut self, number: u8, job: usize, values: [i32; 4], wrote: u8) -> (u8, [i32; 4]) {
         if !self.in_form() {
