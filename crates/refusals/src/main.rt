@@ -2,6 +2,7 @@
 
 mod batches;
 mod damaged;
+mod four_accesses;
 mod guesses;
 mod jobs;
 mod planner;
@@ -29,6 +30,8 @@ fn main() {
     worker::too_late();
     guesses::reports();
     guesses::standing_and_fallen();
+    four_accesses::guesses_settled();
+    four_accesses::guess_fallen();
     reader::asking();
     reader::copying();
     reader::finishing();
