@@ -1,13 +1,13 @@
 //! What inserting refuses with 4 to 8, in a batch of 64 cells.
 
 use crate::job;
-use crate::say;
+use crate::lines;
 use dependence::READ;
 use dependence::UNCERTAIN_WRITE;
 use dependence::WRITE;
 
 fn refusal(what: &[u8], asked: dependence::Job) {
-    say::number(b"job_refusal", what, admission::job_refusal(asked, 64));
+    lines::number(b"job_refusal", what, admission::job_refusal(asked, 64));
 }
 
 /// A job of the kind whose first `arity` cells, 0 upwards, have these modes.
@@ -23,7 +23,7 @@ fn with_modes(kind: u8, arity: u8, a: u8, b: u8, c: u8) -> dependence::Job {
 }
 
 pub fn counts() {
-    say::heading(b"refusal 4: the access count");
+    lines::heading(b"refusal 4: the access count");
     refusal(b"no access", with_modes(0, 0, READ, READ, READ));
     refusal(b"1 access", with_modes(0, 1, READ, READ, READ));
     refusal(b"4 accesses", with_modes(0, 4, READ, READ, READ));
@@ -32,7 +32,7 @@ pub fn counts() {
 }
 
 pub fn accesses() {
-    say::heading(b"refusals 5, 6 and 7: the accesses");
+    lines::heading(b"refusals 5, 6 and 7: the accesses");
     refusal(b"cell 63", job::of_one(63, READ));
     refusal(b"cell 64", job::of_one(64, READ));
     refusal(
@@ -54,7 +54,7 @@ pub fn accesses() {
         b"a cell twice, once in a place not in use",
         job::last_place(3, job::access(1, WRITE)),
     );
-    say::number(
+    lines::number(
         b"job_refusal",
         b"cell 0 of no cells",
         admission::job_refusal(job::of_one(0, READ), 0),
@@ -62,7 +62,7 @@ pub fn accesses() {
 }
 
 pub fn kinds_and_modes() {
-    say::heading(b"refusal 8: the kind and its modes");
+    lines::heading(b"refusal 8: the kind and its modes");
     refusal(
         b"outside, free modes 1 2 0",
         with_modes(0, 3, WRITE, UNCERTAIN_WRITE, READ),
@@ -101,7 +101,7 @@ pub fn kinds_and_modes() {
 }
 
 pub fn order() {
-    say::heading(b"the lowest number where several apply");
+    lines::heading(b"the lowest number where several apply");
     let read = job::access(1, READ);
     refusal(
         b"5 accesses, cell 64",

@@ -1,13 +1,13 @@
 //! Conflict: of two accesses, of an access and a job, of two jobs.
 
 use crate::job;
-use crate::say;
+use crate::lines;
 use dependence::READ;
 use dependence::UNCERTAIN_WRITE;
 use dependence::WRITE;
 
 fn of_accesses(what: &[u8], earlier: dependence::Access, later: dependence::Access) {
-    say::answer(
+    lines::answer(
         b"Access::conflicts_with",
         what,
         earlier.conflicts_with(later),
@@ -15,15 +15,15 @@ fn of_accesses(what: &[u8], earlier: dependence::Access, later: dependence::Acce
 }
 
 fn of_access_and_job(what: &[u8], access: dependence::Access, other: dependence::Job) {
-    say::answer(b"Access::touches", what, access.touches(other));
+    lines::answer(b"Access::touches", what, access.touches(other));
 }
 
 fn of_jobs(what: &[u8], earlier: dependence::Job, later: dependence::Job) {
-    say::answer(b"Job::conflicts_with", what, earlier.conflicts_with(later));
+    lines::answer(b"Job::conflicts_with", what, earlier.conflicts_with(later));
 }
 
 pub fn accesses() {
-    say::heading(b"two accesses: the same cell, and not both reads");
+    lines::heading(b"two accesses: the same cell, and not both reads");
     let read = job::access(5, READ);
     let write = job::access(5, WRITE);
     let maybe = job::access(5, UNCERTAIN_WRITE);
@@ -37,7 +37,7 @@ pub fn accesses() {
 }
 
 pub fn places() {
-    say::heading(b"an access and a job: a place of the job that is in use");
+    lines::heading(b"an access and a job: a place of the job that is in use");
     let write = job::access(5, WRITE);
     let read = job::access(5, READ);
     of_access_and_job(b"write 5, read at place 0", write, job::of_one(5, READ));
@@ -64,7 +64,7 @@ pub fn places() {
 }
 
 pub fn jobs() {
-    say::heading(b"two jobs: a shared cell, and not both read it");
+    lines::heading(b"two jobs: a shared cell, and not both read it");
     let reader = job::of_one(5, READ);
     let maybe = job::of_one(5, UNCERTAIN_WRITE);
     let last = job::last_place(4, job::access(5, WRITE));

@@ -1,17 +1,17 @@
 //! The kinds at the ends of the 32-bit range and where their tests turn.
 
-use crate::say;
+use crate::lines;
 
 const LOWEST: i32 = -2147483648;
 
 const HIGHEST: i32 = 2147483647;
 
 fn shift(what: &[u8], height: i32, by: i32) {
-    say::height(b"shift", what, kinds::shift(height, by));
+    lines::height(b"shift", what, kinds::shift(height, by));
 }
 
 fn spike(what: &[u8], height: i32, beside: i32, parameter: i32) {
-    say::answer(
+    lines::answer(
         b"is_spike",
         what,
         kinds::is_spike(height, beside, parameter),
@@ -19,15 +19,15 @@ fn spike(what: &[u8], height: i32, beside: i32, parameter: i32) {
 }
 
 fn mean(what: &[u8], left: i32, right: i32) {
-    say::height(b"mean", what, kinds::mean(left, right));
+    lines::height(b"mean", what, kinds::mean(left, right));
 }
 
 fn result(what: &[u8], kind: u8, parameter: i32, handed: [i32; 4]) {
-    say::outcome(b"result", what, kinds::result(kind, parameter, handed));
+    lines::outcome(b"result", what, kinds::result(kind, parameter, handed));
 }
 
 pub fn shifts() {
-    say::heading(b"shift: held at the ends of the range");
+    lines::heading(b"shift: held at the ends of the range");
     shift(b"2147483640 by 20", 2147483640, 20);
     shift(b"2147483640 by 7", 2147483640, 7);
     shift(b"2147483647 by 1", HIGHEST, 1);
@@ -39,7 +39,7 @@ pub fn shifts() {
 }
 
 pub fn spikes() {
-    say::heading(b"spike: a distance above p");
+    lines::heading(b"spike: a distance above p");
     spike(b"2900 beside 1500, p 1399", 2900, 1500, 1399);
     spike(b"2900 beside 1500, p 1400", 2900, 1500, 1400);
     spike(b"1500 beside 2900, p 1399", 1500, 2900, 1399);
@@ -62,21 +62,21 @@ pub fn spikes() {
 }
 
 pub fn floors_and_pairs() {
-    say::heading(b"floor: a height below p; pair: the first above the second");
-    say::answer(b"is_below", b"1399, p 1400", kinds::is_below(1399, 1400));
-    say::answer(b"is_below", b"1400, p 1400", kinds::is_below(1400, 1400));
-    say::answer(
+    lines::heading(b"floor: a height below p; pair: the first above the second");
+    lines::answer(b"is_below", b"1399, p 1400", kinds::is_below(1399, 1400));
+    lines::answer(b"is_below", b"1400, p 1400", kinds::is_below(1400, 1400));
+    lines::answer(
         b"is_below",
         b"-2147483648, p 2147483647",
         kinds::is_below(LOWEST, HIGHEST),
     );
-    say::answer(b"is_above", b"1720, 1480", kinds::is_above(1720, 1480));
-    say::answer(b"is_above", b"1480, 1480", kinds::is_above(1480, 1480));
-    say::answer(b"is_above", b"-1, -2", kinds::is_above(-1, -2));
+    lines::answer(b"is_above", b"1720, 1480", kinds::is_above(1720, 1480));
+    lines::answer(b"is_above", b"1480, 1480", kinds::is_above(1480, 1480));
+    lines::answer(b"is_above", b"-1, -2", kinds::is_above(-1, -2));
 }
 
 pub fn means() {
-    say::heading(b"mean: rounded towards minus infinity");
+    lines::heading(b"mean: rounded towards minus infinity");
     mean(b"3, 4", 3, 4);
     mean(b"-3, -4", -3, -4);
     mean(b"0, -1", 0, -1);
@@ -86,7 +86,7 @@ pub fn means() {
 }
 
 pub fn results() {
-    say::heading(b"the result of a kind: four values, the mark, the refusal");
+    lines::heading(b"the result of a kind: four values, the mark, the refusal");
     result(b"set 1500 of 7", kinds::SET, 1500, [7, 0, 0, 0]);
     result(
         b"shift 20 of 2147483640",
@@ -122,7 +122,7 @@ pub fn results() {
 }
 
 pub fn refusals() {
-    say::heading(b"the result of a kind that has none: the values as handed");
+    lines::heading(b"the result of a kind that has none: the values as handed");
     result(b"kind 0", 0, 1, [5, 6, 7, 8]);
     result(b"kind 7", 7, 1, [5, 6, 7, 8]);
     result(b"kind 255", 255, 1, [5, 6, 7, 8]);

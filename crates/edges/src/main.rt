@@ -4,9 +4,9 @@ mod admission_edges;
 mod conflict_edges;
 mod job;
 mod kind_edges;
+mod lines;
 mod pass_edges;
 mod ready_edges;
-mod say;
 
 fn main() {
     conflict_edges::accesses();

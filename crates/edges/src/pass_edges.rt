@@ -1,7 +1,7 @@
 //! The two passes over a list of jobs.
 
 use crate::job;
-use crate::say;
+use crate::lines;
 use dependence::READ;
 use dependence::WRITE;
 
@@ -20,27 +20,27 @@ fn readers_and_writer() -> [dependence::Job; 128] {
 }
 
 pub fn flags_of_writers() {
-    say::heading(b"the pass for readiness, 128 jobs on one cell");
+    lines::heading(b"the pass for readiness, 128 jobs on one cell");
     let mut settled = [0u8; 128];
     let flags = passes::ready_flags(writers(), settled, 128);
-    say::answer(b"ready_flags", b"writers, none settled, job 0", flags[0]);
-    say::answer(b"ready_flags", b"writers, none settled, job 1", flags[1]);
-    say::answer(
+    lines::answer(b"ready_flags", b"writers, none settled, job 0", flags[0]);
+    lines::answer(b"ready_flags", b"writers, none settled, job 1", flags[1]);
+    lines::answer(
         b"ready_flags",
         b"writers, none settled, job 127",
         flags[127],
     );
     settled[0] = 1;
     let after = passes::ready_flags(writers(), settled, 128);
-    say::answer(b"ready_flags", b"writers, job 0 settled, job 1", after[1]);
-    say::answer(b"ready_flags", b"writers, job 0 settled, job 2", after[2]);
+    lines::answer(b"ready_flags", b"writers, job 0 settled, job 1", after[1]);
+    lines::answer(b"ready_flags", b"writers, job 0 settled, job 2", after[2]);
     let mixed = passes::ready_flags(readers_and_writer(), settled, 128);
-    say::answer(
+    lines::answer(
         b"ready_flags",
         b"readers, then a writer, job 126",
         mixed[126],
     );
-    say::answer(
+    lines::answer(
         b"ready_flags",
         b"readers, then a writer, job 127",
         mixed[127],
@@ -48,46 +48,46 @@ pub fn flags_of_writers() {
 }
 
 pub fn flags_of_counts() {
-    say::heading(
+    lines::heading(
         b"the pass for readiness, all writers before job 127 settled, by the number of jobs",
     );
     let mut settled = [1u8; 128];
     settled[127] = 0;
     let none = passes::ready_flags(writers(), settled, 0);
-    say::answer(b"ready_flags", b"0 jobs, job 0", none[0]);
+    lines::answer(b"ready_flags", b"0 jobs, job 0", none[0]);
     let few = passes::ready_flags(writers(), settled, 127);
-    say::answer(b"ready_flags", b"127 jobs, job 126", few[126]);
-    say::answer(b"ready_flags", b"127 jobs, job 127", few[127]);
+    lines::answer(b"ready_flags", b"127 jobs, job 126", few[126]);
+    lines::answer(b"ready_flags", b"127 jobs, job 127", few[127]);
     let many = passes::ready_flags(writers(), settled, 1000);
-    say::answer(b"ready_flags", b"1000 jobs, job 127", many[127]);
+    lines::answer(b"ready_flags", b"1000 jobs, job 127", many[127]);
 }
 
 pub fn chains_of_writers() {
-    say::heading(b"the pass for chains, 128 writers of one cell");
+    lines::heading(b"the pass for chains, 128 writers of one cell");
     let lengths = passes::chain_lengths(writers(), 128);
-    say::number(b"chain_lengths", b"job 0", lengths[0]);
-    say::number(b"chain_lengths", b"job 1", lengths[1]);
-    say::number(b"chain_lengths", b"job 127", lengths[127]);
+    lines::number(b"chain_lengths", b"job 0", lengths[0]);
+    lines::number(b"chain_lengths", b"job 1", lengths[1]);
+    lines::number(b"chain_lengths", b"job 127", lengths[127]);
 }
 
 pub fn chains_of_readers() {
-    say::heading(b"the pass for chains, 127 readers of one cell and then a writer");
+    lines::heading(b"the pass for chains, 127 readers of one cell and then a writer");
     let lengths = passes::chain_lengths(readers_and_writer(), 128);
-    say::number(b"chain_lengths", b"job 0", lengths[0]);
-    say::number(b"chain_lengths", b"job 126", lengths[126]);
-    say::number(b"chain_lengths", b"job 127", lengths[127]);
+    lines::number(b"chain_lengths", b"job 0", lengths[0]);
+    lines::number(b"chain_lengths", b"job 126", lengths[126]);
+    lines::number(b"chain_lengths", b"job 127", lengths[127]);
     let readers = passes::chain_lengths(readers_and_writer(), 127);
-    say::number(b"chain_lengths", b"without the writer, job 0", readers[0]);
+    lines::number(b"chain_lengths", b"without the writer, job 0", readers[0]);
 }
 
 pub fn chains_of_counts() {
-    say::heading(b"the pass for chains, writers of one cell, by the number of jobs");
+    lines::heading(b"the pass for chains, writers of one cell, by the number of jobs");
     let none = passes::chain_lengths(writers(), 0);
-    say::number(b"chain_lengths", b"0 jobs, job 0", none[0]);
+    lines::number(b"chain_lengths", b"0 jobs, job 0", none[0]);
     let one = passes::chain_lengths(writers(), 1);
-    say::number(b"chain_lengths", b"1 job, job 0", one[0]);
-    say::number(b"chain_lengths", b"1 job, job 1", one[1]);
+    lines::number(b"chain_lengths", b"1 job, job 0", one[0]);
+    lines::number(b"chain_lengths", b"1 job, job 1", one[1]);
     let many = passes::chain_lengths(writers(), 1000);
-    say::number(b"chain_lengths", b"1000 jobs, job 0", many[0]);
-    say::number(b"chain_lengths", b"1000 jobs, job 127", many[127]);
+    lines::number(b"chain_lengths", b"1000 jobs, job 0", many[0]);
+    lines::number(b"chain_lengths", b"1000 jobs, job 127", many[127]);
 }

@@ -1,16 +1,16 @@
 //! Readiness of a single job, in a full list.
 
 use crate::job;
-use crate::say;
+use crate::lines;
 use dependence::READ;
 use dependence::WRITE;
 
 fn ready(what: &[u8], jobs: [dependence::Job; 128], settled: [u8; 128], j: usize) {
-    say::answer(b"is_ready", what, dependence::is_ready(jobs, settled, j));
+    lines::answer(b"is_ready", what, dependence::is_ready(jobs, settled, j));
 }
 
 pub fn writers() {
-    say::heading(b"readiness among 128 writers of one cell");
+    lines::heading(b"readiness among 128 writers of one cell");
     let writer = job::of_one(5, WRITE);
     let jobs = [writer; 128];
     let none = [0u8; 128];
@@ -31,7 +31,7 @@ pub fn writers() {
 }
 
 pub fn readers() {
-    say::heading(b"readiness among 127 readers of one cell and a writer, none settled");
+    lines::heading(b"readiness among 127 readers of one cell and a writer, none settled");
     let reader = job::of_one(5, READ);
     let writer = job::of_one(5, WRITE);
     let mut jobs = [reader; 128];

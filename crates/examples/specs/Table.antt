@@ -1,4 +1,5 @@
 -- Document 01: "P1 to P9 form one table, shown by one theorem about the definitions."
+-- The rows behind P9 are points of the same plans at which a call is refused, and a job of four accesses.
 use Prim.Native.Nat.{ℕ, zero, suc}
 use mathlib.Core.Bool.{Bool, true, false}
 use mathlib.Core.List.{List, [], _∷_}
@@ -14,7 +15,7 @@ use Rattle.dependence.specs.Conflict.{touches, conflicts}
 use Rattle.admission.specs.Admission.{kindModes, jobRefusal}
 use Rattle.kinds.specs.Kinds.{reported, tableOf, resultOf}
 use Rattle.jobset.specs.JobSet.{bit, withBit, hasJob, withJob, reachesTo}
-use Rattle.rules.specs.Values.{valueAt, writeBack}
+use Rattle.rules.specs.Values.{writeBack}
 use Rattle.rules.specs.Walk.{sourceBelow}
 use Rattle.rules.specs.Speculation.{isReady, invalidBelow, isInvalid}
 use Rattle.walk.specs.Sources.{setOf}
@@ -23,7 +24,9 @@ use Rattle.engine.specs.Form.{jobOut, inForm}
 use Rattle.engine.specs.Opening.{opened, withInserted, inserted, withSealed, sealedWith}
 use Rattle.engine.specs.Steps.{withJobChanged, startedOwn, startedSpeculation, reportedOwn, reportedSpeculation, committedBy}
 use Rattle.engine.specs.Perform.{perform}
-use Rattle.examples.specs.Plan.{Line, insertion, sealing, step, Plan, answerTo, answersTo, answersIn, afterAll, final, settledIn}
+use Rattle.engine.specs.Ask.{cellRefusal, askedCell, jobAskRefusal, shownJob, askedJob}
+use Rattle.examples.specs.Plan.{Line, insertion, sealing, step, ownReport, speculationReport, Plan, first, _then_}
+use Rattle.examples.specs.Plan.{answerTo, answersTo, answersIn, afterAll, final, settledIn}
 
 -- What a row says.
 pub data Example : Type 0 where
@@ -47,7 +50,7 @@ Holds (gives kind p handed values mark) = resultOf kind p handed ≡ reported va
 Holds (conflict earlier later answer) = conflicts earlier later ≡ answer
 Holds (answers plan list) = answersIn plan ≡ list
 Holds (settled plan j how mark) = settledIn (final plan) j ≡ record { how = how; mark = mark }
-Holds (height plan place value) = valueAt (final plan .cells) place ≡ value
+Holds (height plan x value) = askedCell (final plan) x .height ≡ value
 Holds (invalid plan j) = isInvalid (snapshotOf (final plan)) j ≡ true
 Holds (next plan line answer) = answerTo (final plan) line ≡ answer
 
@@ -143,6 +146,47 @@ plan9 = record {
       ∷ [];
 }
 
+-- P8's jobs with guessing off.
+abbrev planOff : Plan
+planOff = record {
+  heights = pos 1500 ∷ pos 1480 ∷ [];
+  lines =
+      insertion (jobOn floor (pos 1400) 0)
+      ∷ insertion (jobOn shift (pos 20) 0)
+      ∷ sealing 0
+      ∷ step 0 0
+      ∷ [];
+}
+
+-- P9 with the second shift not guessed: the guess that it would take from has fallen.
+abbrev planFallen : Plan
+planFallen = first 7 plan9 then step 2 0
+
+-- A job of four accesses: it reads cells 0 to 2 and has the mode on cell 3 in its fourth place.
+abbrev fourth : ℕ → Job
+fourth mode = record {
+  kind = outside;
+  parameter = pos 0;
+  arity = 4;
+  accesses =
+      record { cell = 0; mode = 0 }
+      ∷ record { cell = 1; mode = 0 }
+      ∷ record { cell = 2; mode = 0 }
+      ∷ record { cell = 3; mode = mode }
+      ∷ [];
+}
+
+-- Its own run is out.
+abbrev planFourth : ℕ → Plan
+planFourth mode = record {
+  heights = pos 1500 ∷ pos 1480 ∷ pos 1460 ∷ pos 1440 ∷ [];
+  lines = insertion (fourth mode) ∷ sealing 1 ∷ step 0 0 ∷ [];
+}
+
+-- It reports a new height of cell 3, and others for the cells that it only reads.
+abbrev reportFourth : Line
+reportFourth = ownReport 0 (pos 1 ∷ pos 2 ∷ pos 3 ∷ pos 1450 ∷ []) 1
+
 -- Kind, p, the values handed, the values reported, the mark.
 abbrev pub table : List Example
 table =
@@ -180,12 +224,57 @@ table =
     ∷ invalid plan9 2
     ∷ next plan9 (step 0 2) 15
     ∷ next plan9 (step 0 1) 0
+    -- 12: a guess with guessing off.
+    ∷ next planOff (step 1 1) 12
+    -- 13, start own: the job is settled; its own run is out.
+    ∷ next plan8 (step 0 0) 13
+    ∷ next (first 4 plan8) (step 0 0) 13
+    -- 13, start guess: the job is settled; its own run is out; its guess is out, stored, thrown away.
+    ∷ next plan8 (step 1 0) 13
+    ∷ next (first 4 plan8) (step 1 0) 13
+    ∷ next (first 5 plan8) (step 1 1) 13
+    ∷ next (first 6 plan8) (step 1 1) 13
+    ∷ next (plan9 then step 0 1) (step 1 1) 13
+    -- 13, reports: the run is not started; it is reported; it is thrown away.
+    ∷ next (first 3 plan8) (step 2 0) 13
+    ∷ next plan8 (step 2 0) 13
+    ∷ next (first 4 plan8) (step 3 1) 13
+    ∷ next (first 6 plan8) (step 3 1) 13
+    ∷ next (plan9 then step 0 1) (step 3 1) 13
+    -- 13, settle: the job is settled; its guess is not started, out, thrown away.
+    ∷ next plan8 (step 4 1) 13
+    ∷ next (first 4 plan8) (step 4 1) 13
+    ∷ next (first 5 plan8) (step 4 1) 13
+    ∷ next (plan9 then step 0 1) (step 4 1) 13
+    -- 14: a guess of a ready job.
+    ∷ next (first 3 plan8) (step 1 0) 14
+    -- 15, start guess: the writer met has no guess, one that is out, one that has fallen.
+    ∷ next (first 5 plan9) (step 1 2) 15
+    ∷ next (first 6 plan9) (step 1 2) 15
+    ∷ next (first 7 plan9) (step 1 2) 0
+    ∷ next planFallen (step 1 2) 15
+    -- 15, settle: a job not ready.
+    ∷ next (first 6 plan8) (step 4 1) 15
+    -- 16: a mark above 1; mark 1 of a job without a maybe-write.
+    ∷ next (first 4 plan8) (ownReport 0 (one (pos 1400)) 2) 16
+    ∷ next (first 4 plan8) (ownReport 0 (one (pos 1400)) 1) 0
+    ∷ next (first 5 plan8) (speculationReport 1 (one (pos 1520)) 1) 16
+    ∷ next (first 5 plan8) (speculationReport 1 (one (pos 1520)) 0) 0
+    -- 17: start own while its guess stands. 18: settle a fallen guess.
+    ∷ next (first 7 plan8) (step 0 1) 17
+    ∷ next plan9 (step 4 1) 18
+    -- The fourth access counts as the others do: mark 1 of a maybe-write there is accepted, that of a write is not.
+    ∷ next (planFourth 1) reportFourth 16
+    ∷ next (planFourth 2) reportFourth 0
+    ∷ settled (planFourth 2 then reportFourth) 0 1 1
+    ∷ height (planFourth 2 then reportFourth) 2 (pos 1460)
+    ∷ height (planFourth 2 then reportFourth) 3 (pos 1450)
     ∷ []
 
 -- The one theorem: every row of the table holds.
 pub examples-hold : AllHold table
 unfolding resultOf tableOf conflicts touches
-    perform answersTo afterAll opened inserted sealedWith startedOwn startedSpeculation reportedOwn reportedSpeculation committedBy
+    perform answersTo afterAll cellRefusal askedCell jobAskRefusal shownJob askedJob opened inserted sealedWith startedOwn startedSpeculation reportedOwn reportedSpeculation committedBy
     withInserted withSealed withJobChanged inForm jobOut jobRefusal firstOf isReady isInvalid invalidBelow
     sourceBelow setOf writeBack bit withBit hasJob withJob reachesTo anyBelow foldBelow
 examples-hold =
@@ -198,4 +287,14 @@ examples-hold =
     also refl also refl  -- P7
     also refl also refl also refl also refl also refl  -- P8
     also refl also refl also refl also refl also refl also refl also refl  -- P9
+    also refl  -- 12
+    also refl also refl  -- 13, start own
+    also refl also refl also refl also refl also refl  -- 13, start guess
+    also refl also refl also refl also refl also refl  -- 13, reports
+    also refl also refl also refl also refl  -- 13, settle
+    also refl  -- 14
+    also refl also refl also refl also refl also refl  -- 15
+    also refl also refl also refl also refl  -- 16
+    also refl also refl  -- 17, 18
+    also refl also refl also refl also refl also refl  -- four accesses
     also end

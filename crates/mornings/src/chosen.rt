@@ -1,7 +1,6 @@
 //! A morning in which the chooser names every start and every settling.
 
 use crate::jobs;
-use crate::say;
 use crate::tell;
 use engine::Batch;
 use engine::Choice;

@@ -2,7 +2,6 @@
 
 mod chosen;
 mod jobs;
-mod say;
 mod tell;
 mod week;
 

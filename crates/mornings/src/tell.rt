@@ -1,6 +1,5 @@
 //! Calls of the engine, and the lines that tell what they answer.
 
-use crate::say;
 use dependence::Job;
 use engine::Answer;
 use engine::Batch;

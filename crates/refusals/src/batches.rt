@@ -1,6 +1,9 @@
 //! Batches at the points where the calls are made.
 
 use crate::jobs;
+use dependence::READ;
+use dependence::UNCERTAIN_WRITE;
+use dependence::WRITE;
 use engine::Batch;
 
 /// A point of a batch.
@@ -75,6 +78,15 @@ pub fn nearly_full() -> Batch {
         n += 1;
     }
     batch
+}
+
+/// Sealed, with four jobs of four accesses. In the fourth place they maybe-write, write, maybe-write and read.
+pub fn of_four() -> Batch {
+    let one = with_job(opened(), jobs::of_four(UNCERTAIN_WRITE));
+    let two = with_job(one, jobs::of_four(WRITE));
+    let three = with_job(two, jobs::of_four(UNCERTAIN_WRITE));
+    let four = with_job(three, jobs::of_four(READ));
+    with_seal(four, 1)
 }
 
 fn unsealed() -> Batch {

@@ -3,7 +3,6 @@
 use crate::batches;
 use crate::batches::Point;
 use crate::jobs;
-use crate::say;
 use dependence::READ;
 use engine::Batch;
 use engine::Run;
@@ -20,10 +19,10 @@ fn calls(words: &[u8], batch: Batch) {
     let inserted = batch.insert(jobs::floor());
     let sealed = batch.seal(1);
     say::text(words);
-    say::number(b": step ", stepped.refusal);
-    say::number(b", choose ", choice.refusal);
-    say::number(b", insert ", inserted.refusal);
-    say::number(b", seal ", sealed.refusal);
+    say::number(b": step ", stepped.refusal as u64);
+    say::number(b", choose ", choice.refusal as u64);
+    say::number(b", insert ", inserted.refusal as u64);
+    say::number(b", seal ", sealed.refusal as u64);
 }
 
 fn answers(words: &[u8], batch: Batch) {
@@ -33,9 +32,9 @@ fn answers(words: &[u8], batch: Batch) {
     let progress = batch.progress();
     let mut buffer = [9i32; 7];
     let copied = batch.copy_out(&mut buffer, 0);
-    say::number(b", cell ", cell.refusal);
-    say::number(b", job ", job.refusal);
-    say::number(b", progress ", progress.refusal);
+    say::number(b", cell ", cell.refusal as u64);
+    say::number(b", job ", job.refusal as u64);
+    say::number(b", progress ", progress.refusal as u64);
     say::line(b", copy out ", copied);
 }
 

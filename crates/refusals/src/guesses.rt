@@ -1,7 +1,6 @@
 //! The worker host's refusals for a report, and for a guess that stands or has fallen.
 
 use crate::batches::Point;
-use crate::say;
 use crate::worker;
 
 pub fn reports() {

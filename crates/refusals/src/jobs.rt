@@ -51,6 +51,13 @@ pub fn reader(arity: u8) -> Job {
     of_kind(0, arity, a, b)
 }
 
+/// An outside job of four accesses: it reads cells 0 to 2, and has the mode on cell 3 in its fourth place.
+pub fn of_four(mode: u8) -> Job {
+    let mut job = reader(4);
+    job.accesses[3] = Access { cell: 3, mode };
+    job
+}
+
 /// An outside job that has cell 0 twice.
 pub fn twice() -> Job {
     let access = Access {

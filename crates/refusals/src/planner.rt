@@ -3,7 +3,6 @@
 use crate::batches;
 use crate::batches::Point;
 use crate::jobs;
-use crate::say;
 use dependence::READ;
 use dependence::UNCERTAIN_WRITE;
 use engine::Batch;

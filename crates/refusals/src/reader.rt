@@ -2,7 +2,6 @@
 
 use crate::batches;
 use crate::batches::Point;
-use crate::say;
 use crate::worker;
 
 fn cell(words: &[u8], point: Point, x: usize) {
@@ -28,20 +27,20 @@ pub fn asking() {
 /// The places of the buffer.
 fn places(held: [i32; 7]) {
     say::text(b", they hold");
-    say::height(held[0]);
-    say::height(held[1]);
-    say::height(held[2]);
-    say::height(held[3]);
-    say::height(held[4]);
-    say::height(held[5]);
-    say::height(held[6]);
+    say::height(b" ", held[0]);
+    say::height(b" ", held[1]);
+    say::height(b" ", held[2]);
+    say::height(b" ", held[3]);
+    say::height(b" ", held[4]);
+    say::height(b" ", held[5]);
+    say::height(b" ", held[6]);
     say::text(b"\n");
 }
 
 fn copy_out(words: &[u8], at: usize) {
     let mut buffer = [9i32; 7];
     let refusal = batches::at(Point::Opened).copy_out(&mut buffer, at);
-    say::number(words, refusal);
+    say::number(words, refusal as u64);
     places(buffer);
 }
 

@@ -2,7 +2,6 @@
 
 use crate::batches;
 use crate::batches::Point;
-use crate::say;
 
 pub fn start_own(words: &[u8], point: Point, j: usize) {
     let answer = batches::at(point).start_own(j);
