@@ -1,4 +1,4 @@
--- Document 01: "P1 to P9 form one table, shown by one theorem about the definitions."
+-- The worked examples P1 to P9 as one table, shown by one theorem about the definitions.
 -- The rows behind P9 are points of the same plans at which a call is refused, and a job of four accesses.
 use Prim.Native.Nat.{ℕ, zero, suc}
 use mathlib.Core.Bool.{Bool, true, false}
@@ -83,7 +83,7 @@ abbrev minus : ℕ → ℤ
 minus zero = pos 0
 minus (suc n) = negsuc n
 
--- "Four values travel with every run, one for each access; unused places are 0."
+-- R30: four values, and 0 in places not in use.
 abbrev one : ℤ → List ℤ
 one a = a ∷ pos 0 ∷ pos 0 ∷ pos 0 ∷ []
 
@@ -108,11 +108,11 @@ reader cell = accessing outside (pos 0) 0 cell
 abbrev maybeWriter : ℕ → Job
 maybeWriter cell = accessing outside (pos 0) 2 cell
 
--- A job of the kind, with p, on one cell. "Modes follow the kind."
+-- A job of the kind, with p, on one cell, in the mode that the kind has for it.
 abbrev jobOn : ℕ → ℤ → ℕ → Job
 jobOn kind p cell = accessing kind p (getD (kindModes kind) 0 0) cell
 
--- P8: document 01's plan.
+-- P8: the worked plan.
 abbrev plan8 : Plan
 plan8 = record {
   heights = pos 1500 ∷ pos 1480 ∷ [];
@@ -224,9 +224,9 @@ table =
     ∷ invalid plan9 2
     ∷ next plan9 (step 0 2) 15
     ∷ next plan9 (step 0 1) 0
-    -- 12: a guess with guessing off.
+    -- R112: a guess with guessing off.
     ∷ next planOff (step 1 1) 12
-    -- 13, start own: the job is settled; its own run is out.
+    -- R113, start own: the job is settled; its own run is out.
     ∷ next plan8 (step 0 0) 13
     ∷ next (first 4 plan8) (step 0 0) 13
     -- 13, start guess: the job is settled; its own run is out; its guess is out, stored, thrown away.
@@ -246,21 +246,21 @@ table =
     ∷ next (first 4 plan8) (step 4 1) 13
     ∷ next (first 5 plan8) (step 4 1) 13
     ∷ next (plan9 then step 0 1) (step 4 1) 13
-    -- 14: a guess of a ready job.
+    -- R114: a guess of a ready job.
     ∷ next (first 3 plan8) (step 1 0) 14
-    -- 15, start guess: the writer met has no guess, one that is out, one that has fallen.
+    -- R115, start guess: the writer met has no guess, one that is out, one that has fallen.
     ∷ next (first 5 plan9) (step 1 2) 15
     ∷ next (first 6 plan9) (step 1 2) 15
     ∷ next (first 7 plan9) (step 1 2) 0
     ∷ next planFallen (step 1 2) 15
     -- 15, settle: a job not ready.
     ∷ next (first 6 plan8) (step 4 1) 15
-    -- 16: a mark above 1; mark 1 of a job without a maybe-write.
+    -- R116: a mark above 1; mark 1 of a job without a maybe-write.
     ∷ next (first 4 plan8) (ownReport 0 (one (pos 1400)) 2) 16
     ∷ next (first 4 plan8) (ownReport 0 (one (pos 1400)) 1) 0
     ∷ next (first 5 plan8) (speculationReport 1 (one (pos 1520)) 1) 16
     ∷ next (first 5 plan8) (speculationReport 1 (one (pos 1520)) 0) 0
-    -- 17: start own while its guess stands. 18: settle a fallen guess.
+    -- R117: start own while its guess stands. R118: settle a fallen guess.
     ∷ next (first 7 plan8) (step 0 1) 17
     ∷ next plan9 (step 4 1) 18
     -- The fourth access counts as the others do: mark 1 of a maybe-write there is accepted, that of a write is not.

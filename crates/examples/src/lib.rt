@@ -1,1 +1,1 @@
-//! Document 01's gauge examples as one table, shown by one theorem about the definitions. It has no code.
+//! The rules' worked examples as one table, shown by one theorem about the definitions. It has no code.
