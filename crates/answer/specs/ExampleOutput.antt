@@ -16,7 +16,7 @@ use Rattle.engine.specs.Form.{jobOut, inForm}
 use Rattle.engine.specs.Opening.{opened, withInserted, inserted, withSealed, sealedWith}
 use Rattle.engine.specs.Steps.{withJobChanged, startedOwn, startedSpeculation, reportedOwn, reportedSpeculation, committedBy}
 use Rattle.engine.specs.ByNumber.{stepped}
-use Rattle.engine.specs.Ask.{cellRefusal, askedCell, jobAskRefusal, shownJob, askedJob}
+use Rattle.engine.specs.Ask.{cellRefusal, askedCell, jobAskRefusal, shownJob, askedJob, isFinished, askedBatch}
 use Rattle.kinds.specs.Kinds.{tableOf, resultOf}
 use Rattle.text.specs.Pieces.{lineFeed, pieces}
 use Rattle.number.specs.Numbers.{allDigits, valueAfter, hasLeadingZero, naturalUpTo}
@@ -48,7 +48,7 @@ pub example-answered : outputOf examplePlan ≡ exampleOutput
 unfolding outputOf readingText partsText jobsText cellsText stepsText batchAfterLines performed reportOf
     examplePlan pieces stepLineOf allDigits valueAfter hasLeadingZero naturalUpTo
     stepped startedOwn startedSpeculation reportedOwn reportedSpeculation committedBy withJobChanged
-    cellRefusal askedCell jobAskRefusal shownJob askedJob resultOf tableOf
+    cellRefusal askedCell jobAskRefusal shownJob askedJob isFinished askedBatch resultOf tableOf
     opened withInserted inserted withSealed sealedWith inForm jobOut jobRefusal firstOf
     isReady isInvalid invalidBelow sourceBelow setOf writeBack conflicts touches
     bit withBit hasJob withJob reachesTo anyBelow foldBelow digitsWithin decimal heightText

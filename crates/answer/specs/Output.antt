@@ -4,7 +4,7 @@ use mathlib.Core.Bool.{cond}
 use mathlib.Core.List.{List, [], _∷_, _++_}
 use lib.Dec.{eqb, ltb}
 use lib.ListN.{length, drop}
-use Rattle.engine.specs.Ask.{askedCell, askedJob}
+use Rattle.engine.specs.Ask.{askedCell, askedJob, askedBatch}
 use Rattle.engine.specs.declared.Batch.{Batch}
 use Rattle.text.specs.Pieces.{lineFeed, pieces}
 use Rattle.render.specs.Text.{tripleLine, heightLine, faultLines}
@@ -33,14 +33,14 @@ abbrev pub jobLine : Batch → ℕ → List ℕ
 jobLine b j = tripleLine j (askedJob b j .committed) (askedJob b j .wrote)
 
 unfoldable pub jobsText : Batch → List ℕ
-jobsText b = linesBelow (b .«job_count») (jobLine b)
+jobsText b = linesBelow (askedBatch b .«job_count») (jobLine b)
 
 -- A cell's line has its height.
 abbrev pub cellLine : Batch → ℕ → List ℕ
 cellLine b x = heightLine x (askedCell b x .height)
 
 unfoldable pub cellsText : Batch → List ℕ
-cellsText b = linesBelow (b .«cell_count») (cellLine b)
+cellsText b = linesBelow (askedBatch b .«cell_count») (cellLine b)
 
 -- The three parts. The steps are those of these lines, tried on this batch; jobs and cells are shown as the steps left them.
 unfoldable pub partsText : Batch → List (List ℕ) → List ℕ

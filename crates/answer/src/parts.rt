@@ -12,7 +12,8 @@ pub fn put_jobs(out: &mut [u8], at: usize, batch: Batch) -> usize
     ensures { λ r. ⌜ Put (now (out .entry)) at (jobsText batch) (now (out .exit)) r ⌝ }
     ensures { λ r. ⌜ length (jobsText batch) ≤ 3060 ⌝ }
 {
-    let n = batch.job_count as u32;
+    let progress = batch.progress();
+    let n = progress.job_count as u32;
     let mut j: u32 = 0;
     let mut next = at;
     while j < n {
@@ -29,7 +30,8 @@ pub fn put_cells(out: &mut [u8], at: usize, batch: Batch) -> usize
     ensures { λ r. ⌜ Put (now (out .entry)) at (cellsText batch) (now (out .exit)) r ⌝ }
     ensures { λ r. ⌜ length (cellsText batch) ≤ 4080 ⌝ }
 {
-    let n = batch.cell_count as u32;
+    let progress = batch.progress();
+    let n = progress.cell_count as u32;
     let mut x: u32 = 0;
     let mut next = at;
     while x < n {

@@ -26,7 +26,15 @@ Inv-loop out₀ at batch n x₀ next₀ out x next =
 abbrev μ-loop : tie.MeasureT-loop
 μ-loop out₀ at batch n x₀ next₀ out x next = n - x
 
--- the count of cells fits 32 bits
+-- asking for the counts asks for nothing
+progress-requires : tie.Need-progress-requires Inv-loop μ-loop
+progress-requires c κs = tt
+
+-- the count of cells is a byte
+few-cells : (c : tie.After-progress Inv-loop μ-loop) → c .progress .result .«cell_count» < 256
+few-cells c = search needs
+
+-- it fits 32 bits
 cast-n : tie.Need-cast-n Inv-loop μ-loop
 cast-n c = search needs
 
@@ -60,8 +68,9 @@ loop-again c =
     let put = c .before .before in
     let told = put .before .before .before in
     let loop = told .before .before .loop in
-    let batch = told .before .before .before .before .before .args .batch in
-    let few : batch .«cell_count» < 256 = search needs in
+    let asked = told .before .before .before .before in
+    let batch = asked .before .before .args .batch in
+    let few = few-cells asked in
     let fits : SFits w32 (told .cell .result .height) = search needs in
     let line : heightLine (loop .x) (told .cell .result .height) ≡ cellLine batch (loop .x) = rw (← told .cell .ensures) in (
       omega arith,
@@ -80,10 +89,10 @@ returns : tie.Need-returns Inv-loop μ-loop
 unfolding cellsText
 returns c =
     let loop = c .before .loop in
-    let batch = c .before .before .before .before .args .batch in
-    let few : batch .«cell_count» < 256 = search needs in
-    let all : loop .x ≡ batch .«cell_count» = omega arith in
-    (rw all at (loop .inv .1), omega (arith, rw all at (loop .inv .2)))
+    let asked = c .before .before .before in
+    let few = few-cells asked in
+    let all : loop .x ≡ asked .progress .result .«cell_count» = omega arith in
+    rw (← asked .progress .ensures) (rw all at (loop .inv .1), omega (arith, rw all at (loop .inv .2)))
 
 pub put-cells-spec : {M : Type 1} → statement M
 put-cells-spec =
@@ -91,6 +100,7 @@ put-cells-spec =
     (tie.spec
     Inv-loop
     μ-loop
+    progress-requires
     cast-n
     loop-holds
     cast-cell

@@ -22,7 +22,15 @@ Inv-loop out₀ at batch n j₀ next₀ out j next =
 abbrev μ-loop : tie.MeasureT-loop
 μ-loop out₀ at batch n j₀ next₀ out j next = n - j
 
--- the count of jobs fits 32 bits
+-- asking for the counts asks for nothing
+progress-requires : tie.Need-progress-requires Inv-loop μ-loop
+progress-requires c κs = tt
+
+-- the count of jobs is a byte
+few-jobs : (c : tie.After-progress Inv-loop μ-loop) → c .progress .result .«job_count» < 256
+few-jobs c = search needs
+
+-- it fits 32 bits
 cast-n : tie.Need-cast-n Inv-loop μ-loop
 cast-n c = search needs
 
@@ -37,6 +45,10 @@ cast-job c = search needs
 -- a turn: asking the job asks for nothing
 job-requires : tie.Need-job-requires Inv-loop μ-loop
 job-requires c κs = tt
+
+-- a turn: how it was committed and its mark are bytes
+bytes : (c : tie.After-job Inv-loop μ-loop) → (c .job .result .committed < 256) × (c .job .result .wrote < 256)
+bytes c = (search needs, search needs)
 
 -- a turn: how it was committed fits 32 bits
 cast-put-triple : tie.Need-cast-put-triple Inv-loop μ-loop
@@ -64,14 +76,14 @@ loop-again c =
     let put = c .before .before in
     let shown = put .before .before .before .before in
     let loop = shown .before .before .loop in
-    let batch = shown .before .before .before .before .before .args .batch in
-    let few : batch .«job_count» < 256 = search needs in
-    let how : shown .job .result .committed < 256 = search needs in
-    let mark : shown .job .result .wrote < 256 = search needs in (
+    let asked = shown .before .before .before .before in
+    let batch = asked .before .before .args .batch in
+    let few = few-jobs asked in
+    let shown-bytes = bytes shown in (
       omega arith,
       rw (below-more (loop .j) (jobLine batch), ← shown .job .ensures) (put-then (loop .inv .1) (put .put-triple .ensures)),
       below-length (loop .j) (jobLine batch) 12 (loop .inv .2)
-          (rw (← shown .job .ensures) (three-bytes _ _ _ (omega arith) how mark)),
+          (rw (← shown .job .ensures) (three-bytes _ _ _ (omega arith) (shown-bytes .0) (shown-bytes .1))),
     )
 
 -- at the end the buffer has its length
@@ -83,10 +95,10 @@ returns : tie.Need-returns Inv-loop μ-loop
 unfolding jobsText
 returns c =
     let loop = c .before .loop in
-    let batch = c .before .before .before .before .args .batch in
-    let few : batch .«job_count» < 256 = search needs in
-    let all : loop .j ≡ batch .«job_count» = omega arith in
-    (rw all at (loop .inv .1), omega (arith, rw all at (loop .inv .2)))
+    let asked = c .before .before .before in
+    let few = few-jobs asked in
+    let all : loop .j ≡ asked .progress .result .«job_count» = omega arith in
+    rw (← asked .progress .ensures) (rw all at (loop .inv .1), omega (arith, rw all at (loop .inv .2)))
 
 pub put-jobs-spec : {M : Type 1} → statement M
 put-jobs-spec =
@@ -94,6 +106,7 @@ put-jobs-spec =
     (tie.spec
     Inv-loop
     μ-loop
+    progress-requires
     cast-n
     loop-holds
     cast-job
