@@ -1,4 +1,4 @@
--- Document 01's own plan and what the program writes for it, computed from the definition.
+-- P8's plan and what the program writes for it, computed from the definition.
 use Prim.Native.Nat.{ℕ}
 use mathlib.Core.List.{List, [], _∷_}
 use mathlib.Core.Path.{_≡_, ap}

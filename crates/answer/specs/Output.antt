@@ -1,4 +1,4 @@
--- What the program writes, for every input: document 01, "The program `gaugebatch`".
+-- R152: what the program writes, for every input.
 use Prim.Native.Nat.{ℕ, zero, suc}
 use mathlib.Core.Bool.{cond}
 use mathlib.Core.List.{List, [], _∷_, _++_}
@@ -23,12 +23,12 @@ jobNames = 106 ∷ 111 ∷ 98 ∷ 32 ∷ 104 ∷ 111 ∷ 119 ∷ 32 ∷ 109 ∷ 
 abbrev pub cellNames : List ℕ
 cellNames = 99 ∷ 101 ∷ 108 ∷ 108 ∷ 32 ∷ 118 ∷ 97 ∷ 108 ∷ 117 ∷ 101 ∷ 10 ∷ []
 
--- "job and cell lines go by number": the lines of 0 to n - 1.
+-- Job and cell lines go by number: the lines of 0 to n - 1.
 abbrev pub linesBelow : ℕ → (ℕ → List ℕ) → List ℕ
 linesBelow zero line = []
 linesBelow (suc n) line = linesBelow n line ++ line n
 
--- "How: 0 unsettled, 1 own run, 2 guess. An unsettled job's mark is 0."
+-- The job, how it is settled, and its mark, as asked for (R72).
 abbrev pub jobLine : Batch → ℕ → List ℕ
 jobLine b j = tripleLine j (askedJob b j .committed) (askedJob b j .wrote)
 
@@ -52,13 +52,13 @@ partsText b lines =
     ++ cellNames
     ++ cellsText (batchAfterLines b lines)
 
--- "The first faulty line decides, before any step; the only output is then `fault line` and the number with its line".
+-- R150: the first faulty line decides before any step, and its number and line are then all that is written.
 -- Without a fault the steps are those after the line `step job`.
 unfoldable pub readingText : Reading → List (List ℕ) → List ℕ
 readingText r lines =
     cond (eqb (r .fault) 0) (partsText (r .batch) (drop (r .«step_line») lines)) (faultLines (r .fault) (r .line))
 
--- "22: over 65,536 bytes (line 0)."
+-- R122: over 65,536 bytes, on line 0.
 unfoldable pub outputOf : List ℕ → List ℕ
 outputOf bytes =
     cond (ltb 65536 (length bytes)) (faultLines 22 0) (readingText (planOf bytes) (pieces lineFeed bytes))
