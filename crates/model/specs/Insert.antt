@@ -2,22 +2,18 @@
 use Prim.Native.Nat.{ℕ, suc, _≤_, _<_}
 use native.Mathlib.Omega.{arith}
 use mathlib.Core.Path.{_≡_, sym, _∙_}
-use mathlib.Core.Logic.{_≢_}
 use mathlib.Core.Option.{none, some}
-use mathlib.Core.Bool.{Bool}
 use lib.IntN.{ℤ}
 use Rattle.laws.specs.SearchLaws.{clash}
 use Rattle.model.specs.Cases.{below-or, none-some}
 use Rattle.model.specs.Update.{update, update-other}
 use Rattle.model.specs.Column.{after-agree}
 use Rattle.model.specs.State.{Use, Progress, idle, running, committed}
-use Rattle.model.specs.State.{Origin, Speculation, never, originOf}
+use Rattle.model.specs.State.{Origin, never, originOf}
 use Rattle.model.specs.State.{State, effects, before, Committed, Ready, Right}
 use Rattle.model.specs.State.{Invalid, bypassed-wrote, source-discarded, source-invalid}
 use Rattle.model.specs.State.{Bypass, Source, forwarded, present, RunOk, Invariant}
 use Rattle.model.specs.StateLaws.{open-no-effect, idle-open}
-use Rattle.model.specs.Commit.{commitState}
-use Rattle.model.specs.Change.{changeState}
 
 -- From the job count on nothing has been done.
 abbrev pub Blank : State → Type 0
@@ -34,22 +30,6 @@ insertState s job = record {
   progress = s .progress;
   speculation = s .speculation;
 }
-
--- Each step keeps the state blank from the job count on, and so does an insert.
-pub change-keeps-blank : (s : State) (j : ℕ) (p : Progress) (u : Speculation)
-    → j < s .jobCount → Blank s → Blank (changeState s j p u)
-change-keeps-blank s j p u l blank i b =
-    let n : i ≢ j = omega arith in
-    rw (update-other (s .speculation) j u i n, update-other (s .progress) j p i n) (blank i b)
-
-pub commit-keeps-blank : (s : State) (j : ℕ) (handed reported : ℕ → ℤ) (mark : Bool)
-    → j < s .jobCount → Blank s → Blank (commitState s j handed reported mark)
-commit-keeps-blank s j handed reported mark l blank i b =
-    let n : i ≢ j = omega arith in
-    rw (update-other (s .progress) j (committed handed reported mark) i n) (blank i b)
-
-pub insert-keeps-blank : (s : State) (job : ℕ → Use) → Blank s → Blank (insertState s job)
-insert-keeps-blank s job blank i b = blank i (omega arith)
 
 -- Here and below: s with its invariant, blank from its job count on.
 module _ (s : State) (job : ℕ → Use) (inv : Invariant s) (blank : Blank s) where

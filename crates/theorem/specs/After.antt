@@ -1,14 +1,14 @@
--- The record and the ledger agree after every list of calls.
+-- The record and the ledger agree after an opening, and go on together with every accepted call.
 use Prim.Native.Nat.{ℕ, zero, suc, _+_, _-_, _≤_}
 use native.Mathlib.Omega.{arith}
 use mathlib.Core.Bool.{false}
-use mathlib.Core.List.{List, [], _∷_}
+use mathlib.Core.List.{List}
 use mathlib.Core.Option.{some}
 use mathlib.Core.Path.{_≡_, refl, ap, _∙_}
 use lib.Dec.{eqb}
 use lib.IntN.{ℤ, pos}
 use lib.ListN.{length, getD, drop, replicate, length-append, length-drop, length-replicate}
-use borrow.Author.Tests.{eqb-true, eqb-false, ltb-false}
+use borrow.Author.Tests.{eqb-false, ltb-false}
 use Rattle.laws.specs.SearchLaws.{if-or, or-left, or-right}
 use Rattle.dependence.specs.declared.Job.{Job}
 use Rattle.dependence.specs.Job.{blankJob}
@@ -20,7 +20,6 @@ use Rattle.engine.specs.Opening.{fresh, padded, openRefused, opened, inserted, 
 use Rattle.engine.specs.Steps.{startedOwn, startedSpeculation, reportedOwn, reportedSpeculation, committedBy}
 use Rattle.engine.specs.Perform.{perform}
 use Rattle.claims.specs.Ledger.{Ledger, noEntry, emptyLedger, enter}
-use Rattle.claims.specs.Trace.{eventOf, eventsOf, batchAfter, recorded, ledgerAfter, batchOf, ledgerOf}
 use Rattle.theorem.specs.Faithful.{untouched, FaithfulJob, Faithful}
 use Rattle.theorem.specs.Agreement.{moved, blank-job, inserted-kept, sealed-kept}
 use Rattle.theorem.specs.StepAgreement.{own-started-kept, speculation-started-kept, own-reported-kept, speculation-reported-kept, committed-kept}
@@ -47,21 +46,6 @@ refused-stays b (startSpeculation j) e = rw e
 refused-stays b (reportOwn j values wrote) e = rw e
 refused-stays b (reportSpeculation j values wrote) e = rw e
 refused-stays b (commit j) e = rw e
-
--- Any call.
-pub call-keeps : {b : Batch} {l : Ledger} → Faithful b l → (call : Call)
-    → Faithful (perform b call .batch) (recorded l (eventOf b call))
-call-keeps {b} {l} agree call =
-    if-or (eqb (perform b call .refusal) 0)
-    (λ t. rw t (accepted-keeps agree call (eqb-true (perform b call .refusal) 0 t)))
-    (λ f. rw (f, refused-stays b call f) agree)
-
--- A list of calls.
-pub faithful-after : {b : Batch} {l : Ledger} → Faithful b l → (calls : List Call)
-    → Faithful (batchAfter b calls) (ledgerAfter l (eventsOf b calls))
-unfolding batchAfter eventsOf ledgerAfter
-faithful-after agree [] = agree
-faithful-after agree (call ∷ calls) = faithful-after (call-keeps agree call) calls
 
 -- The opening.
 
@@ -137,8 +121,3 @@ opened-faithful heights e =
     if-or (openRefused heights)
     (λ t. absurd (omega (arith, rw t at e)))
     (λ f. rw f (fresh-faithful heights f))
-
--- From an accepted opening, whatever is called.
-pub faithful-always : (heights : List ℤ) (calls : List Call) → opened heights .refusal ≡ 0
-    → Faithful (batchOf heights calls) (ledgerOf heights calls)
-faithful-always heights calls e = faithful-after (opened-faithful heights e) calls
