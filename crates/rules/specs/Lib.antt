@@ -4,3 +4,4 @@ pub mod Snapshot
 pub mod Speculation
 pub mod Call
 pub mod Refusals
+pub mod Examples

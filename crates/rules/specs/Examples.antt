@@ -1,0 +1,243 @@
+-- Calls on small snapshots with the number that the rules answer: each test of each call once, and which of two tests
+-- that both apply goes first. They pin the tests too that no theorem about whole lists of calls needs.
+use Prim.Native.Nat.{ℕ}
+use mathlib.Core.Bool.{Bool, true, false, cond, _&&_}
+use mathlib.Core.List.{List, [], _∷_}
+use mathlib.Core.Path.{_≡_, refl}
+use lib.Dec.{eqb}
+use lib.IntN.{pos}
+use lib.ListN.{getD}
+use Rattle.laws.specs.Search.{anyBelow}
+use Rattle.laws.specs.Refusal.{firstOf}
+use Rattle.dependence.specs.declared.Access.{Access}
+use Rattle.dependence.specs.declared.Job.{Job}
+use Rattle.dependence.specs.Job.{noAccess, jobAt}
+use Rattle.dependence.specs.Conflict.{touches, conflicts}
+use Rattle.rules.specs.Walk.{sourceBelow}
+use Rattle.rules.specs.Snapshot.{Snapshot}
+use Rattle.rules.specs.Speculation.{isReady, invalidBelow, isInvalid}
+use Rattle.rules.specs.Call.{Call, insert, seal, startOwn, startSpeculation, reportOwn, reportSpeculation, commit}
+use Rattle.rules.specs.Refusals.{refusalOf}
+
+-- A row: a snapshot, a call, and the answer.
+pub data Example : Type 0 where
+  answers : Snapshot → Call → ℕ → Example
+
+abbrev pub Holds : Example → Type 0
+Holds (answers snapshot call number) = refusalOf snapshot call ≡ number
+
+infixr 4 _also_
+pub data AllHold : List Example → Type 0 where
+  end : AllHold []
+  _also_ : {example : Example} {rest : List Example} → Holds example → AllHold rest → AllHold (example ∷ rest)
+
+-- Jobs of kind 0, whose modes are free.
+
+abbrev access : ℕ → ℕ → Access
+access mode cell = record { mode = mode; cell = cell }
+
+abbrev none : Job
+none = record { kind = 0; parameter = pos 0; arity = 0; accesses = noAccess ∷ noAccess ∷ noAccess ∷ noAccess ∷ [] }
+
+abbrev one : ℕ → ℕ → Job
+one mode cell =
+    record { kind = 0; parameter = pos 0; arity = 1; accesses = access mode cell ∷ noAccess ∷ noAccess ∷ noAccess ∷ [] }
+
+-- Reads of cells 1, 2 and 3, and behind them the mode on the cell.
+abbrev four : ℕ → ℕ → Job
+four mode cell =
+    record { kind = 0; parameter = pos 0; arity = 4; accesses = access 0 1 ∷ access 0 2 ∷ access 0 3 ∷ access mode cell ∷ [] }
+
+-- Jobs 0 to 3 are a maybe-writer, two writers and a reader of cell 0. Jobs 4 and 5 conflict with no job.
+abbrev jobs : List Job
+jobs = one 2 0 ∷ one 1 0 ∷ one 1 0 ∷ one 0 0 ∷ four 2 4 ∷ four 1 5 ∷ []
+
+-- How a job stands.
+record Standing : Type 0 where
+  committed : Bool
+  wrote : Bool
+  running : Bool
+  phase : ℕ
+
+-- Nothing of it has started.
+abbrev idle : Standing
+idle = record { committed = false; wrote = false; running = false; phase = 0 }
+
+-- Its guess is out, or has a stored report.
+abbrev guessed : Standing
+guessed = record { committed = false; wrote = false; running = false; phase = 1 }
+
+abbrev stored : Standing
+stored = record { committed = false; wrote = false; running = false; phase = 2 }
+
+-- Its own run is out: it had no guess, or that one was thrown away.
+abbrev running : Standing
+running = record { committed = false; wrote = false; running = true; phase = 0 }
+
+abbrev rerunning : Standing
+rerunning = record { committed = false; wrote = false; running = true; phase = 3 }
+
+-- It is settled: by its own run with mark 0 or 1, by its own run in place of its guess, by its guess.
+abbrev kept : Standing
+kept = record { committed = true; wrote = false; running = false; phase = 0 }
+
+abbrev wrote : Standing
+wrote = record { committed = true; wrote = true; running = false; phase = 0 }
+
+abbrev rerun : Standing
+rerun = record { committed = true; wrote = false; running = false; phase = 3 }
+
+abbrev taken : Standing
+taken = record { committed = true; wrote = false; running = false; phase = 2 }
+
+-- The snapshot with this many of the jobs, sealed or not, with guessing on or off. Jobs that the list does not reach are idle.
+-- The guess of job 1 looked past job 0, and those of jobs 2 and 3 took their value from the writer before them.
+abbrev moment : ℕ → Bool → Bool → List Standing → Snapshot
+moment count sealed speculating standing =
+    record {
+      cellCount = 6;
+      jobCount = count;
+      sealed = sealed;
+      speculating = speculating;
+      job = λ j. jobAt jobs j;
+      committed = λ j. getD standing j idle .committed;
+      wrote = λ j. getD standing j idle .wrote;
+      running = λ j. getD standing j idle .running;
+      phase = λ j. getD standing j idle .phase;
+      bypassed = λ j i. eqb j 1 && eqb i 0;
+      source = λ j place. cond (eqb place 0) (getD (0 ∷ 0 ∷ 2 ∷ 3 ∷ []) j 0) 0;
+    }
+
+abbrev unsealed : ℕ → Snapshot
+unsealed count = moment count false false []
+
+abbrev guessingOff : List Standing → Snapshot
+guessingOff standing = moment 6 true false standing
+
+abbrev guessingOn : List Standing → Snapshot
+guessingOn standing = moment 6 true true standing
+
+abbrev pub table : List Example
+table =
+    -- insert
+    answers (unsealed 6) (insert (one 0 0)) 0
+    ∷ answers (guessingOn []) (insert (one 0 0)) 2
+    ∷ answers (unsealed 127) (insert (one 0 0)) 0
+    ∷ answers (unsealed 128) (insert (one 0 0)) 3
+    ∷ answers (unsealed 6) (insert none) 4
+    ∷ answers (moment 128 true true []) (insert none) 2
+    ∷ answers (unsealed 128) (insert none) 3
+    -- seal
+    ∷ answers (unsealed 0) (seal 0) 0
+    ∷ answers (unsealed 6) (seal 1) 0
+    ∷ answers (guessingOn []) (seal 1) 2
+    ∷ answers (unsealed 6) (seal 2) 9
+    ∷ answers (guessingOff []) (seal 2) 2
+    -- start own
+    ∷ answers (guessingOff []) (startOwn 0) 0
+    ∷ answers (unsealed 6) (startOwn 0) 10
+    ∷ answers (guessingOn []) (startOwn 6) 11
+    ∷ answers (guessingOn (kept ∷ [])) (startOwn 0) 13
+    ∷ answers (guessingOn (running ∷ [])) (startOwn 0) 13
+    ∷ answers (guessingOn []) (startOwn 1) 15
+    ∷ answers (guessingOn (kept ∷ guessed ∷ [])) (startOwn 1) 17
+    ∷ answers (guessingOn (kept ∷ stored ∷ [])) (startOwn 1) 17
+    -- the guess has fallen: a job that it looked past wrote, or the guess that it took from was thrown away
+    ∷ answers (guessingOn (wrote ∷ guessed ∷ [])) (startOwn 1) 0
+    ∷ answers (guessingOn (wrote ∷ rerun ∷ stored ∷ [])) (startOwn 2) 0
+    ∷ answers (unsealed 6) (startOwn 6) 10
+    ∷ answers (guessingOn (idle ∷ kept ∷ [])) (startOwn 1) 13
+    ∷ answers (guessingOn (running ∷ stored ∷ [])) (startOwn 1) 15
+    -- start guess
+    ∷ answers (guessingOn []) (startSpeculation 1) 0
+    ∷ answers (guessingOn (running ∷ stored ∷ [])) (startSpeculation 2) 0
+    ∷ answers (guessingOn (kept ∷ taken ∷ stored ∷ [])) (startSpeculation 3) 0
+    ∷ answers (unsealed 6) (startSpeculation 1) 10
+    ∷ answers (guessingOn []) (startSpeculation 6) 11
+    ∷ answers (guessingOff []) (startSpeculation 1) 12
+    ∷ answers (guessingOn (idle ∷ kept ∷ [])) (startSpeculation 1) 13
+    ∷ answers (guessingOn (idle ∷ running ∷ [])) (startSpeculation 1) 13
+    ∷ answers (guessingOn (idle ∷ guessed ∷ [])) (startSpeculation 1) 13
+    ∷ answers (guessingOn (idle ∷ stored ∷ [])) (startSpeculation 1) 13
+    ∷ answers (guessingOn (wrote ∷ rerunning ∷ [])) (startSpeculation 1) 13
+    ∷ answers (guessingOn []) (startSpeculation 0) 14
+    ∷ answers (guessingOn (kept ∷ [])) (startSpeculation 1) 14
+    -- the writer met has no guess, or one without a report, or a fallen one, or one that took from a fallen one
+    ∷ answers (guessingOn []) (startSpeculation 2) 15
+    ∷ answers (guessingOn (idle ∷ guessed ∷ [])) (startSpeculation 2) 15
+    ∷ answers (guessingOn (wrote ∷ rerunning ∷ [])) (startSpeculation 2) 15
+    ∷ answers (guessingOn (wrote ∷ stored ∷ [])) (startSpeculation 2) 15
+    ∷ answers (guessingOn (wrote ∷ stored ∷ stored ∷ [])) (startSpeculation 3) 15
+    ∷ answers (guessingOff []) (startSpeculation 6) 11
+    ∷ answers (guessingOff (kept ∷ [])) (startSpeculation 0) 12
+    ∷ answers (guessingOn (running ∷ [])) (startSpeculation 0) 13
+    ∷ answers (guessingOn (idle ∷ idle ∷ guessed ∷ [])) (startSpeculation 2) 13
+    -- report own
+    ∷ answers (guessingOn (running ∷ [])) (reportOwn 0 [] 0) 0
+    ∷ answers (guessingOn (running ∷ [])) (reportOwn 0 [] 1) 0
+    ∷ answers (unsealed 6) (reportOwn 0 [] 0) 10
+    ∷ answers (guessingOn []) (reportOwn 6 [] 0) 11
+    ∷ answers (guessingOn []) (reportOwn 0 [] 0) 13
+    ∷ answers (guessingOn (kept ∷ [])) (reportOwn 0 [] 0) 13
+    ∷ answers (guessingOn (running ∷ [])) (reportOwn 0 [] 2) 16
+    ∷ answers (guessingOn (kept ∷ running ∷ [])) (reportOwn 1 [] 1) 16
+    ∷ answers (guessingOn (idle ∷ guessed ∷ [])) (reportOwn 1 [] 1) 13
+    -- the only maybe-write stands in the fourth place; a write there is none
+    ∷ answers (guessingOn (idle ∷ idle ∷ idle ∷ idle ∷ running ∷ [])) (reportOwn 4 [] 1) 0
+    ∷ answers (guessingOn (idle ∷ idle ∷ idle ∷ idle ∷ idle ∷ running ∷ [])) (reportOwn 5 [] 1) 16
+    -- report guess
+    ∷ answers (guessingOn (idle ∷ guessed ∷ [])) (reportSpeculation 1 [] 0) 0
+    ∷ answers (guessingOn (guessed ∷ [])) (reportSpeculation 0 [] 1) 0
+    -- a fallen guess is reported too
+    ∷ answers (guessingOn (wrote ∷ guessed ∷ [])) (reportSpeculation 1 [] 0) 0
+    ∷ answers (unsealed 6) (reportSpeculation 1 [] 0) 10
+    ∷ answers (guessingOn []) (reportSpeculation 6 [] 0) 11
+    ∷ answers (guessingOn []) (reportSpeculation 1 [] 0) 13
+    ∷ answers (guessingOn (idle ∷ stored ∷ [])) (reportSpeculation 1 [] 0) 13
+    ∷ answers (guessingOn (wrote ∷ rerunning ∷ [])) (reportSpeculation 1 [] 0) 13
+    ∷ answers (guessingOn (idle ∷ guessed ∷ [])) (reportSpeculation 1 [] 2) 16
+    ∷ answers (guessingOn (idle ∷ guessed ∷ [])) (reportSpeculation 1 [] 1) 16
+    ∷ answers (guessingOn (idle ∷ stored ∷ [])) (reportSpeculation 1 [] 1) 13
+    -- settle
+    ∷ answers (guessingOn (kept ∷ stored ∷ [])) (commit 1) 0
+    ∷ answers (guessingOn (kept ∷ taken ∷ stored ∷ [])) (commit 2) 0
+    ∷ answers (unsealed 6) (commit 1) 10
+    ∷ answers (guessingOn []) (commit 6) 11
+    ∷ answers (guessingOn (kept ∷ taken ∷ [])) (commit 1) 13
+    ∷ answers (guessingOn (kept ∷ [])) (commit 1) 13
+    ∷ answers (guessingOn (kept ∷ guessed ∷ [])) (commit 1) 13
+    ∷ answers (guessingOn (wrote ∷ rerunning ∷ [])) (commit 1) 13
+    ∷ answers (guessingOn (running ∷ stored ∷ [])) (commit 1) 15
+    ∷ answers (guessingOn (wrote ∷ stored ∷ [])) (commit 1) 18
+    ∷ answers (guessingOn (wrote ∷ rerun ∷ stored ∷ [])) (commit 2) 18
+    ∷ answers (guessingOn (idle ∷ guessed ∷ [])) (commit 1) 13
+    ∷ answers (guessingOn (wrote ∷ stored ∷ stored ∷ [])) (commit 2) 15
+    ∷ []
+
+-- The one theorem: every row of the table holds.
+pub examples-hold : AllHold table
+unfolding refusalOf firstOf isReady isInvalid invalidBelow sourceBelow conflicts touches anyBelow
+examples-hold =
+    -- insert
+    refl also refl also refl also refl also refl also refl also refl
+    -- seal
+    also refl also refl also refl also refl also refl
+    -- start own
+    also refl also refl also refl also refl also refl also refl also refl also refl
+    also refl also refl
+    also refl also refl also refl
+    -- start guess
+    also refl also refl also refl
+    also refl also refl also refl also refl also refl also refl also refl also refl also refl also refl
+    also refl also refl also refl also refl also refl
+    also refl also refl also refl also refl
+    -- report own
+    also refl also refl also refl also refl also refl also refl also refl also refl also refl
+    also refl also refl
+    -- report guess
+    also refl also refl also refl
+    also refl also refl also refl also refl also refl also refl also refl also refl
+    -- settle
+    also refl also refl
+    also refl also refl also refl also refl also refl also refl also refl also refl also refl also refl also refl
+    also end
