@@ -9,6 +9,7 @@ use lib.ListN.{getD}
 use Rattle.laws.specs.Search.{anyBelow}
 use Rattle.laws.specs.Fold.{foldBelow}
 use Rattle.laws.specs.Refusal.{firstOf}
+use Rattle.laws.specs.Rows.{AllHold, end, _also_}
 use Rattle.dependence.specs.declared.Job.{Job}
 use Rattle.dependence.specs.Job.{noAccess}
 use Rattle.dependence.specs.Conflict.{touches, conflicts}
@@ -53,12 +54,6 @@ Holds (settled plan j how mark) = settledIn (final plan) j ≡ record { how = ho
 Holds (height plan x value) = askedCell (final plan) x .height ≡ value
 Holds (invalid plan j) = isInvalid (snapshotOf (final plan)) j ≡ true
 Holds (next plan line answer) = answerTo (final plan) line ≡ answer
-
--- Every row of a list holds.
-infixr 4 _also_
-pub data AllHold : List Example → Type 0 where
-  end : AllHold []
-  _also_ : {example : Example} {rest : List Example} → Holds example → AllHold rest → AllHold (example ∷ rest)
 
 -- The kinds by their names.
 abbrev outside : ℕ
@@ -272,7 +267,7 @@ table =
     ∷ []
 
 -- The one theorem: every row of the table holds.
-pub examples-hold : AllHold table
+pub examples-hold : AllHold Holds table
 unfolding resultOf tableOf conflicts touches
     perform answersTo afterAll cellRefusal askedCell jobAskRefusal shownJob askedJob opened inserted sealedWith startedOwn startedSpeculation reportedOwn reportedSpeculation committedBy
     withInserted withSealed withJobChanged inForm jobOut jobRefusal firstOf isReady isInvalid invalidBelow

@@ -9,6 +9,7 @@ use lib.IntN.{pos}
 use lib.ListN.{getD}
 use Rattle.laws.specs.Search.{anyBelow}
 use Rattle.laws.specs.Refusal.{firstOf}
+use Rattle.laws.specs.Rows.{AllHold, end, _also_}
 use Rattle.dependence.specs.declared.Access.{Access}
 use Rattle.dependence.specs.declared.Job.{Job}
 use Rattle.dependence.specs.Job.{noAccess, jobAt}
@@ -25,11 +26,6 @@ pub data Example : Type 0 where
 
 abbrev pub Holds : Example → Type 0
 Holds (answers snapshot call number) = refusalOf snapshot call ≡ number
-
-infixr 4 _also_
-pub data AllHold : List Example → Type 0 where
-  end : AllHold []
-  _also_ : {example : Example} {rest : List Example} → Holds example → AllHold rest → AllHold (example ∷ rest)
 
 -- Jobs of kind 0, whose modes are free.
 
@@ -215,7 +211,7 @@ table =
     ∷ []
 
 -- The one theorem: every row of the table holds.
-pub examples-hold : AllHold table
+pub examples-hold : AllHold Holds table
 unfolding refusalOf firstOf isReady isInvalid invalidBelow sourceBelow conflicts touches anyBelow
 examples-hold =
     -- insert
