@@ -58,7 +58,7 @@ unfoldable pub readingText : Reading → List (List ℕ) → List ℕ
 readingText r lines =
     cond (eqb (r .fault) 0) (partsText (r .batch) (drop (r .«step_line») lines)) (faultLines (r .fault) (r .line))
 
--- R122: over 65,536 bytes, on line 0.
+-- R140: the whole answer, for input of any bytes. Over 65,536 of them it is 22 on line 0 (R122).
 unfoldable pub outputOf : List ℕ → List ℕ
 outputOf bytes =
     cond (ltb 65536 (length bytes)) (faultLines 22 0) (readingText (planOf bytes) (pieces lineFeed bytes))
