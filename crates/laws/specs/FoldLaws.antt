@@ -6,7 +6,7 @@ use native.Mathlib.Nat.{sub-zero, suc-sub-suc, eq-or-lt-of-le}
 use mathlib.Core.Logic.{⊎-elim, _≢_}
 use mathlib.Core.Bool.{Bool, true, false, cond, _&&_, _||_}
 use mathlib.Core.List.{List, [], _∷_, _++_, append-assoc}
-use mathlib.Core.Path.{_≡_, refl, sym, _∙_}
+use mathlib.Core.Path.{_≡_, refl, sym, ap, _∙_}
 use lib.Dec.{eqb}
 use lib.ListN.{length, getD, set, drop, replicate, length-append, length-set, length-replicate, List·getD-append}
 use lib.Seq.{set-at, getD-at, drop-at, drop-cons, drop-set-lt, getD-set-same, getD-set-other}
@@ -22,6 +22,13 @@ fold-none f a = refl
 pub fold-more : {A : Type 0} (n : ℕ) (f : ℕ → A → A) (a : A) → foldBelow (n + 1) f a ≡ f n (foldBelow n f a)
 unfolding foldBelow
 fold-more n f a = rw add-one
+
+-- The same changes, made one after the other.
+pub fold-same : {A : Type 0} (n : ℕ) (f g : ℕ → A → A) → ((i : ℕ) (a : A) → f i a ≡ g i a)
+    → (a : A) → foldBelow n f a ≡ foldBelow n g a
+unfolding foldBelow
+fold-same zero f g h a = refl
+fold-same (suc n) f g h a = h n (foldBelow n f a) ∙ ap (g n) (fold-same n f g h a)
 
 -- What every change keeps, the fold keeps.
 pub fold-keeps : {A B : Type 0} (n : ℕ) (f : ℕ → A → A) (g : A → B)

@@ -1,26 +1,19 @@
 -- Jobs that are the same are handed the same and write the same, whatever stands in the places that they do not use.
-use Prim.Native.Nat.{ℕ, zero, suc}
+use Prim.Native.Nat.{ℕ}
 use mathlib.Core.Bool.{true, false, cond, not, _&&_, _||_}
 use mathlib.Core.List.{List}
-use mathlib.Core.Path.{_≡_, refl, sym, ap, _∙_}
+use mathlib.Core.Path.{_≡_, sym, ap, _∙_}
 use lib.Dec.{eqb, leb}
 use lib.IntN.{ℤ}
 use lib.ListN.{set}
 use borrow.Author.Tests.{leb-false}
 use Rattle.laws.specs.SearchLaws.{if-or, not-true}
-use Rattle.laws.specs.Fold.{foldBelow}
+use Rattle.laws.specs.FoldLaws.{fold-same}
 use Rattle.dependence.specs.declared.Access.{Access}
 use Rattle.dependence.specs.declared.Job.{Job}
 use Rattle.dependence.specs.Job.{inUse, accessAt}
 use Rattle.rules.specs.Values.{valueAt, presentAt, presentValues, writeAt, writeBack}
 use Rattle.claims.specs.SameEnd.{SameJob}
-
--- The same changes, made one after the other.
-fold-same : (n : ℕ) (f g : ℕ → List ℤ → List ℤ) → ((i : ℕ) (cells : List ℤ) → f i cells ≡ g i cells)
-    → (cells : List ℤ) → foldBelow n f cells ≡ foldBelow n g cells
-unfolding foldBelow
-fold-same zero f g h cells = refl
-fold-same (suc n) f g h cells = h n (foldBelow n f cells) ∙ ap (g n) (fold-same n f g h cells)
 
 module _ {a b : Job} (same : SameJob a b) where
   -- The same places are in use, with the same accesses.
