@@ -26,8 +26,7 @@ returns-2 c =
     let answered = c .before .before .answer .ensures in
     let enough = c .before .before .before .before .if1 .left in
     let whole = answered .1 .0 enough in
-    let room = answered .1 .1 .0 in
-    (
+    let room = answered .1 .1 .0 in (
       rw (le-ltb _ _ enough, whole-length (answered .0) room whole),
       rw (le-ltb _ _ enough) (whole-laid (answered .0) room whole),
     )
