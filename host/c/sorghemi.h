@@ -107,13 +107,15 @@ typedef struct {
 } sorghemi_cell_answer;
 
 /* How a job stands: the columns and the run's values as the record has them, and the job as inserted. `wrote` is the
- * mark of a settled job, and 0 before that. Zeros where it is refused. */
+ * mark of a settled job, and 0 before that. `validity` is how its guess is judged (R45): 0 there is none out or stored,
+ * 1 it is not yet to be judged, 2 it stands, 3 it has fallen. Zeros where it is refused. */
 typedef struct {
     uint8_t refusal;
     uint8_t committed;
     uint8_t wrote;
     uint8_t running;
     uint8_t phase;
+    uint8_t validity;
     int32_t handed[4];
     int32_t reported[4];
     sorghemi_job job;
@@ -128,6 +130,19 @@ typedef struct {
     uint8_t speculating;
     bool finished;
 } sorghemi_batch_answer;
+
+/* What a kind's check makes of the values handed to it. Where the kind is refused they come back as they were. */
+typedef struct {
+    uint8_t refusal;
+    int32_t values[4];
+    uint8_t wrote;
+} sorghemi_outcome;
+
+/* How many bytes of a lent buffer the answer to a plan takes; 0 where it is refused. */
+typedef struct {
+    uint8_t refusal;
+    size_t length;
+} sorghemi_plan_answer;
 
 #ifdef __cplusplus
 extern "C" {
@@ -147,6 +162,11 @@ sorghemi_job_answer sorghemi_ask_job(sorghemi_batch batch, size_t job);
 sorghemi_batch_answer sorghemi_ask_batch(sorghemi_batch batch);
 /* Copies the cells to the buffer's places from `at` on; all other places keep their values. */
 uint8_t sorghemi_copy_out(sorghemi_batch batch, int32_t *buffer, size_t size, size_t at);
+/* What a job of a kind 1 to 6 reports of the four values handed to it. Refused with 8. */
+sorghemi_outcome sorghemi_result(uint8_t kind, int32_t parameter, const int32_t *handed);
+/* Byte for byte what the program gaugebatch answers to the plan, at the buffer's beginning; the other bytes of the buffer
+ * stay. Refused with 20 where the buffer has fewer than 334,861 bytes, which no answer fills. */
+sorghemi_plan_answer sorghemi_answer_plan(const uint8_t *plan, size_t length, uint8_t *buffer, size_t size);
 /* The list of sizes and offsets that the library was built with; 0 past its end. */
 uint32_t sorghemi_layout(size_t place);
 
@@ -157,7 +177,7 @@ uint32_t sorghemi_layout(size_t place);
 /* The same list as this header has it: a version, then of each struct its size and the offsets of its fields. */
 #define SORGHEMI_AT(type, field) ((uint32_t)offsetof(type, field))
 static const uint32_t sorghemi_header_layout[] = {
-    1,
+    2,
     sizeof(sorghemi_batch), SORGHEMI_AT(sorghemi_batch, cell_count), SORGHEMI_AT(sorghemi_batch, job_count),
     SORGHEMI_AT(sorghemi_batch, sealed), SORGHEMI_AT(sorghemi_batch, speculating), SORGHEMI_AT(sorghemi_batch, cells),
     SORGHEMI_AT(sorghemi_batch, jobs), SORGHEMI_AT(sorghemi_batch, runs), SORGHEMI_AT(sorghemi_batch, committed),
@@ -178,12 +198,16 @@ static const uint32_t sorghemi_header_layout[] = {
     sizeof(sorghemi_cell_answer), SORGHEMI_AT(sorghemi_cell_answer, refusal), SORGHEMI_AT(sorghemi_cell_answer, height),
     sizeof(sorghemi_job_answer), SORGHEMI_AT(sorghemi_job_answer, refusal), SORGHEMI_AT(sorghemi_job_answer, committed),
     SORGHEMI_AT(sorghemi_job_answer, wrote), SORGHEMI_AT(sorghemi_job_answer, running),
-    SORGHEMI_AT(sorghemi_job_answer, phase), SORGHEMI_AT(sorghemi_job_answer, handed),
+    SORGHEMI_AT(sorghemi_job_answer, phase), SORGHEMI_AT(sorghemi_job_answer, validity),
+    SORGHEMI_AT(sorghemi_job_answer, handed),
     SORGHEMI_AT(sorghemi_job_answer, reported), SORGHEMI_AT(sorghemi_job_answer, job),
     sizeof(sorghemi_batch_answer), SORGHEMI_AT(sorghemi_batch_answer, refusal),
     SORGHEMI_AT(sorghemi_batch_answer, cell_count), SORGHEMI_AT(sorghemi_batch_answer, job_count),
     SORGHEMI_AT(sorghemi_batch_answer, sealed), SORGHEMI_AT(sorghemi_batch_answer, speculating),
     SORGHEMI_AT(sorghemi_batch_answer, finished),
+    sizeof(sorghemi_outcome), SORGHEMI_AT(sorghemi_outcome, refusal), SORGHEMI_AT(sorghemi_outcome, values),
+    SORGHEMI_AT(sorghemi_outcome, wrote),
+    sizeof(sorghemi_plan_answer), SORGHEMI_AT(sorghemi_plan_answer, refusal), SORGHEMI_AT(sorghemi_plan_answer, length),
 };
 #undef SORGHEMI_AT
 

@@ -14,7 +14,7 @@ macro_rules! places {
 
 /// The list as this crate has it: a version, then of each struct its size and the offsets of its fields, in bytes.
 pub fn wrapper_layout() -> Vec<u32> {
-    let mut list = vec![1];
+    let mut list = vec![2];
     places! { list:
         Record { cell_count, job_count, sealed, speculating, cells, jobs, runs, committed, running, phase }
         Run { handed, reported, wrote, sources, bypassed }
@@ -27,8 +27,10 @@ pub fn wrapper_layout() -> Vec<u32> {
         Answer { refusal, batch }
         Choice { refusal, step, job, chain }
         CellAnswer { refusal, height }
-        JobAnswer { refusal, committed, wrote, running, phase, handed, reported, job }
+        JobAnswer { refusal, committed, wrote, running, phase, validity, handed, reported, job }
         BatchAnswer { refusal, cell_count, job_count, sealed, speculating, finished }
+        Outcome { refusal, values, wrote }
+        PlanAnswer { refusal, length }
     }
     list
 }

@@ -123,6 +123,7 @@ pub struct JobAnswer {
     pub wrote: u8,
     pub running: u8,
     pub phase: u8,
+    pub validity: u8,
     pub handed: [i32; 4],
     pub reported: [i32; 4],
     pub job: Job,
@@ -141,6 +142,25 @@ pub struct BatchAnswer {
     pub finished: bool,
 }
 
+/// What a kind's check makes of the values handed to it. Where the kind is refused they come back as they were.
+#[repr(C)]
+#[derive(Clone, Copy, Debug, PartialEq, Eq)]
+#[allow(missing_docs)]
+pub struct Outcome {
+    pub refusal: u8,
+    pub values: [i32; 4],
+    pub wrote: u8,
+}
+
+/// How many bytes of a lent buffer the answer to a plan takes; 0 where it is refused.
+#[repr(C)]
+#[derive(Clone, Copy, Debug, PartialEq, Eq)]
+#[allow(missing_docs)]
+pub struct PlanAnswer {
+    pub refusal: u8,
+    pub length: usize,
+}
+
 // Each is proved, for every record and every number, to answer what the engine's definitions say. A caller owes valid pointers
 // and lengths, and nothing else.
 #[allow(missing_docs)]
@@ -155,5 +175,7 @@ extern "C" {
     pub fn sorghemi_ask_job(batch: Record, job: usize) -> JobAnswer;
     pub fn sorghemi_ask_batch(batch: Record) -> BatchAnswer;
     pub fn sorghemi_copy_out(batch: Record, buffer: *mut i32, size: usize, at: usize) -> u8;
+    pub fn sorghemi_result(kind: u8, parameter: i32, handed: *const [i32; 4]) -> Outcome;
+    pub fn sorghemi_answer_plan(plan: *const u8, length: usize, buffer: *mut u8, size: usize) -> PlanAnswer;
     pub fn sorghemi_layout(place: usize) -> u32;
 }
