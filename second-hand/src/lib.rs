@@ -6,6 +6,7 @@ pub mod engine;
 pub mod frame;
 pub mod kinds;
 pub mod plan;
+pub mod plans;
 pub mod record;
 
 /// The whole output of the program for one whole input.
