@@ -1338,8 +1338,7 @@ fn has_fallen(record: &Record, job: usize) -> bool {
 /// R45 word for word.
 fn judged(record: &Record, job: usize) -> u8 {
     let settled = |k: usize| record.committed[k] != 0;
-    let ready =
-        (0..job).all(|k| settled(k) || !conflict(&record.jobs[k], &record.jobs[job]));
+    let ready = (0..job).all(|k| settled(k) || !conflict(&record.jobs[k], &record.jobs[job]));
     match record.phase[job] {
         1 | 2 if has_fallen(record, job) => 3,
         1 | 2 if ready => 2,
@@ -1427,8 +1426,8 @@ fn any_states(dice: &mut Dice, record: &Record) -> Record {
         run.wrote = dice.below(2) as u8;
         run.bypassed = u128::from(dice.below(1 << job) & dice.below(1 << job));
         for source in &mut run.sources {
-            let some = dice.one_in(6);
-            *source = if some { dice.below(job as u64 + 1) as u8 } else { 0 };
+            let some = u64::from(dice.one_in(6));
+            *source = (some * dice.below(job as u64 + 1)) as u8;
         }
     }
     other
@@ -1456,7 +1455,8 @@ fn judged_in_any_state() {
     for phases in met {
         for (phase, numbers) in phases.iter().enumerate() {
             let may = |number: usize| (phase == 1 || phase == 2) == (number != 0);
-            assert!((0..4).all(|number| (numbers[number] > 100) == may(number)), "{met:?}");
+            let came_up = |number: usize| numbers[number] > 100;
+            assert!((0..4).all(|n| came_up(n) == may(n)), "{met:?}");
         }
     }
 }

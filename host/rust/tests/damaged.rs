@@ -3,8 +3,10 @@
 //! records in form whose jobs are in any state. DAMAGED=COUNT sets how many records, SEED=NUMBER which; it prints what was met
 //! (`cargo test --test damaged -- --nocapture`).
 
+mod setting;
 mod theirs;
 
+use setting::setting;
 use sorghemi::raw::{sorghemi_step_by_value, JobSet, Run};
 use sorghemi::{Batch, Job, Mode, Record, Report, Step};
 use std::collections::BTreeMap;
@@ -307,7 +309,6 @@ fn try_every_entry(record: &Record, random: &mut Random, met: &mut Met) {
 
 /// How many records, and the seed.
 fn settings() -> (u64, u64) {
-    let setting = |name: &str, otherwise: u64| std::env::var(name).map_or(otherwise, |text| text.parse().unwrap());
     (setting("DAMAGED", 2000), setting("SEED", 1))
 }
 

@@ -2,15 +2,14 @@
 //! (`second_hand::kinds::ask_result`, `second_hand::answer_plan`). RESULTS=COUNT and PLANS=COUNT set how many random ones,
 //! SEED=NUMBER which; it prints what was met (`cargo test --test entries -- --nocapture`).
 
+mod setting;
+
 use second_hand::plans::{self, Dice};
 use second_hand::{answer_plan, kinds, ANSWER_PLACES};
+use setting::setting;
 use sorghemi::raw::{sorghemi_answer_plan, sorghemi_result};
 use std::collections::BTreeMap;
 use std::path::Path;
-
-fn setting(name: &str, otherwise: u64) -> u64 {
-    std::env::var(name).map_or(otherwise, |text| text.parse().unwrap())
-}
 
 const LEAST: i64 = i32::MIN as i64;
 const MOST: i64 = i32::MAX as i64;
