@@ -2,11 +2,11 @@
 -- and step 0 on it go by (R118, R117).
 use Prim.Native.Nat.{ℕ}
 use native.Mathlib.Omega.{arith}
-use mathlib.Core.Bool.{Bool, true, false, cond, not, _&&_}
+use mathlib.Core.Bool.{Bool, true, false, not, _&&_}
 use mathlib.Core.Path.{_≡_, refl}
 use Rattle.laws.specs.SearchLaws.{and-left, clash}
 use Rattle.rules.specs.Snapshot.{Snapshot, isLive}
-use Rattle.rules.specs.Speculation.{isReady, isInvalid, isValid, validity}
+use Rattle.rules.specs.Speculation.{isReady, isInvalid, isValid, judgedAs, validity}
 
 -- Only a guess that is out or stored has fallen.
 invalid-live : (s : Snapshot) (j : ℕ) → isInvalid s j ≡ true → isLive (s .phase j) ≡ true
@@ -21,7 +21,7 @@ pub fallen-means : (s : Snapshot) (j : ℕ) → validity s j ≡ 3 → isInvalid
 unfolding validity
 fallen-means s j = cases (isLive (s .phase j)) (isInvalid s j) (isReady s j)
   where
-    cases : (live invalid ready : Bool) → _≡_ {A = ℕ} (cond live (cond invalid 3 (cond ready 2 1)) 0) 3 → invalid ≡ true
+    cases : (live invalid ready : Bool) → judgedAs live invalid ready ≡ 3 → invalid ≡ true
     cases false invalid ready e = absurd (omega (arith, e))
     cases true true ready e = refl
     cases true false true e = absurd (omega (arith, e))
@@ -32,7 +32,7 @@ unfolding validity
 means-stands s j ready valid = cases (isLive (s .phase j)) (isInvalid s j) (isReady s j) ready valid
   where
     cases : (live invalid ready : Bool) → ready ≡ true → (live && not invalid) ≡ true
-        → _≡_ {A = ℕ} (cond live (cond invalid 3 (cond ready 2 1)) 0) 2
+        → judgedAs live invalid ready ≡ 2
     cases true false true r v = refl
     cases true false false r v = clash r refl
     cases true true ready r v = clash v refl
@@ -42,7 +42,7 @@ pub stands-means : (s : Snapshot) (j : ℕ) → validity s j ≡ 2 → (isReady 
 unfolding validity
 stands-means s j = cases (isLive (s .phase j)) (isInvalid s j) (isReady s j)
   where
-    cases : (live invalid ready : Bool) → _≡_ {A = ℕ} (cond live (cond invalid 3 (cond ready 2 1)) 0) 2
+    cases : (live invalid ready : Bool) → judgedAs live invalid ready ≡ 2
         → (ready ≡ true) × ((live && not invalid) ≡ true)
     cases false invalid ready e = absurd (omega (arith, e))
     cases true true ready e = absurd (omega (arith, e))
