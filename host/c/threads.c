@@ -56,10 +56,10 @@ static bool is_of_use(morning *today, size_t job)
 static bool check(morning *today, sorghemi_choice choice, sorghemi_job job, const int32_t *handed, sorghemi_report *report)
 {
     for (int part = 0; part < PARTS; part++) {
-        take_a_while();
         if (choice.step == SORGHEMI_START_SPECULATION && !is_of_use(today, choice.job)) {
             return false;
         }
+        take_a_while();
     }
     sorghemi_outcome outcome = sorghemi_result(job.kind, job.parameter, handed);
     expect_accepted("result", outcome.refusal);

@@ -21,7 +21,9 @@ struct Morning {
     changed: Condvar,
     /// How long a part of a check takes. A real check has work to do instead.
     pace: Duration,
+    /// How many guesses were given up, and how many were reported too late.
     given_up: AtomicUsize,
+    late: AtomicUsize,
 }
 
 /// What each worker does until the batch is finished.
@@ -37,7 +39,7 @@ fn work(morning: &Morning) {
                     let report = check(morning, choice, job, handed);
                     batch = morning.batch.lock().unwrap();
                     if let Some(report) = report {
-                        hand_in(&mut batch, choice, report);
+                        hand_in(morning, &mut batch, choice, report);
                     }
                 }
                 morning.changed.notify_all();
@@ -53,11 +55,11 @@ fn work(morning: &Morning) {
 fn check(morning: &Morning, choice: Choice, job: Job, handed: [i32; 4]) -> Option<Report> {
     const PARTS: usize = 5;
     for _ in 0..PARTS {
-        thread::sleep(morning.pace);
         if choice.step == Step::StartSpeculation && !is_of_use(morning, choice.job) {
             morning.given_up.fetch_add(1, Ordering::Relaxed);
             return None;
         }
+        thread::sleep(morning.pace);
     }
     Some(job.result(handed).unwrap())
 }
@@ -69,7 +71,7 @@ fn is_of_use(morning: &Morning, job: usize) -> bool {
     matches!(state.validity, Validity::Undecided | Validity::Valid)
 }
 
-fn hand_in(batch: &mut Batch, choice: Choice, report: Report) {
+fn hand_in(morning: &Morning, batch: &mut Batch, choice: Choice, report: Report) {
     let reported = match choice.step {
         Step::StartOwn => batch.report_own(choice.job, report),
         _ => batch.report_speculation(choice.job, report),
@@ -77,7 +79,9 @@ fn hand_in(batch: &mut Batch, choice: Choice, report: Report) {
     match reported {
         Ok(()) => {}
         // The guess was thrown away while this worker had it. That is no mistake, and nothing is lost.
-        Err(Refusal::WRONG_STATE) if choice.step == Step::StartSpeculation => {}
+        Err(Refusal::WRONG_STATE) if choice.step == Step::StartSpeculation => {
+            morning.late.fetch_add(1, Ordering::Relaxed);
+        }
         Err(refusal) => panic!("{refusal}"),
     }
 }
@@ -108,12 +112,18 @@ pub struct End {
     pub thrown_away: usize,
     /// Of those thrown away.
     pub given_up: usize,
+    pub late: usize,
 }
 
 /// The batch run by so many workers.
 pub fn run(workers: usize, pace: Duration) -> Result<End, Refusal> {
-    let batch = Mutex::new(plan()?);
-    let morning = Morning { batch, changed: Condvar::new(), pace, given_up: AtomicUsize::new(0) };
+    let morning = Morning {
+        batch: Mutex::new(plan()?),
+        changed: Condvar::new(),
+        pace,
+        given_up: AtomicUsize::new(0),
+        late: AtomicUsize::new(0),
+    };
     thread::scope(|scope| {
         for _ in 0..workers {
             let worker = thread::Builder::new().stack_size(STACK);
@@ -127,6 +137,7 @@ pub fn run(workers: usize, pace: Duration) -> Result<End, Refusal> {
         kept: states.iter().filter(|state| state.committed == Committed::BySpeculation).count(),
         thrown_away: states.iter().filter(|state| state.phase == Phase::Discarded).count(),
         given_up: morning.given_up.into_inner(),
+        late: morning.late.into_inner(),
     })
 }
 
@@ -135,6 +146,7 @@ fn main() -> Result<(), Box<dyn std::error::Error>> {
     let workers = std::env::args().nth(1).map_or(Ok(8), |text| text.parse())?;
     let end = run(workers, Duration::from_millis(2))?;
     println!("cells: {:?}", end.heights);
-    println!("guesses kept {}, thrown away {}, of these given up early {}", end.kept, end.thrown_away, end.given_up);
+    println!("guesses kept {}, thrown away {}", end.kept, end.thrown_away);
+    println!("of these given up early {}, reported too late {}", end.given_up, end.late);
     Ok(())
 }

@@ -7,19 +7,22 @@ use std::time::Duration;
 
 #[test]
 fn the_end_is_the_same_whatever_the_threads_do() {
-    let (mut kept, mut thrown_away, mut given_up) = (0, 0, 0);
-    for turn in 0..100 {
+    let mut became = [0; 4];
+    // The turns are worth something only if all that can become of a guess has come up, so they go on until it has.
+    for turn in 0..2000 {
+        if turn >= 100 && became.iter().all(|&times| times > 0) {
+            break;
+        }
         let pace = Duration::from_micros([0, 20, 100, 400][turn % 4]);
         let end = threads::run(1 + turn % 9, pace).unwrap();
         // Worked out from R12 to R17, one job after the other; host/c/threads.stdout has the same.
         assert_eq!(end.heights, [1500, 1485, 1520, 1492, 1400, 1499], "turn {turn}");
-        kept += end.kept;
-        thrown_away += end.thrown_away;
-        given_up += end.given_up;
+        for (sum, more) in became.iter_mut().zip([end.kept, end.thrown_away, end.given_up, end.late]) {
+            *sum += more;
+        }
     }
-    // The turns are worth something only if all that can become of a guess has come up.
-    println!("guesses kept {kept}, thrown away {thrown_away}, given up {given_up}");
-    assert!(kept > 0 && thrown_away > 0 && given_up > 0, "{kept} {thrown_away} {given_up}");
+    println!("guesses kept, thrown away, of these given up and reported too late: {became:?}");
+    assert!(became.iter().all(|&times| times > 0), "{became:?}");
 }
 
 /// The page says how much stack is enough. The example's workers have no more; a plan's answer needs the most.
