@@ -30,25 +30,35 @@ struct Morning {
 fn work(morning: &Morning) {
     let mut batch = morning.batch.lock().unwrap();
     while !batch.finished() {
-        match batch.choose() {
-            Ok(choice) => {
-                let handed = batch.step(choice.step, choice.job, Report::default()).unwrap();
-                if choice.step != Step::Commit {
-                    let job = batch.job(choice.job).unwrap().job;
-                    drop(batch); // The others go on while this one checks.
-                    let report = check(morning, choice, job, handed);
-                    batch = morning.batch.lock().unwrap();
-                    if let Some(report) = report {
-                        hand_in(morning, &mut batch, choice, report);
-                    }
-                }
-                morning.changed.notify_all();
-            }
+        let choice = match batch.choose() {
             // Nothing to start before another worker has reported.
-            Err(Refusal::NOTHING_TO_START) => batch = morning.changed.wait(batch).unwrap(),
-            Err(refusal) => panic!("{refusal}"),
+            Err(Refusal::NOTHING_TO_START) => {
+                batch = morning.changed.wait(batch).unwrap();
+                continue;
+            }
+            choice => accepted(choice),
+        };
+        let handed = accepted(batch.step(choice.step, choice.job, Report::default()));
+        if choice.step != Step::Commit {
+            let job = accepted(batch.job(choice.job)).job;
+            drop(batch); // The others go on while this one checks.
+            let report = check(morning, choice, job, handed);
+            batch = morning.batch.lock().unwrap();
+            if let Some(report) = report {
+                hand_in(morning, &mut batch, choice, report);
+            }
         }
+        morning.changed.notify_all();
     }
+}
+
+/// What the call answered. A refusal here is a mistake of this program and ends it: a worker that only panicked would leave the
+/// others waiting for its report.
+fn accepted<T>(answer: Result<T, Refusal>) -> T {
+    answer.unwrap_or_else(|refusal| {
+        eprintln!("{refusal}");
+        std::process::exit(1)
+    })
 }
 
 /// The job's check of the values that were handed out. Nothing comes of a guess that is given up.
@@ -61,13 +71,13 @@ fn check(morning: &Morning, choice: Choice, job: Job, handed: [i32; 4]) -> Optio
         }
         thread::sleep(morning.pace);
     }
-    Some(job.result(handed).unwrap())
+    Some(accepted(job.result(handed)))
 }
 
 /// Whether the guess that a worker has may still be settled. It may not where it has fallen, or where the job's own run has taken
 /// its place already.
 fn is_of_use(morning: &Morning, job: usize) -> bool {
-    let state = morning.batch.lock().unwrap().job(job).unwrap();
+    let state = accepted(morning.batch.lock().unwrap().job(job));
     matches!(state.validity, Validity::Undecided | Validity::Valid)
 }
 
@@ -76,13 +86,11 @@ fn hand_in(morning: &Morning, batch: &mut Batch, choice: Choice, report: Report)
         Step::StartOwn => batch.report_own(choice.job, report),
         _ => batch.report_speculation(choice.job, report),
     };
-    match reported {
-        Ok(()) => {}
-        // The guess was thrown away while this worker had it. That is no mistake, and nothing is lost.
-        Err(Refusal::WRONG_STATE) if choice.step == Step::StartSpeculation => {
-            morning.late.fetch_add(1, Ordering::Relaxed);
-        }
-        Err(refusal) => panic!("{refusal}"),
+    // The guess was thrown away while this worker had it. That is no mistake, and nothing is lost.
+    if choice.step == Step::StartSpeculation && reported == Err(Refusal::WRONG_STATE) {
+        morning.late.fetch_add(1, Ordering::Relaxed);
+    } else {
+        accepted(reported);
     }
 }
 
