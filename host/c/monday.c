@@ -20,7 +20,7 @@ static sorghemi_handed step(sorghemi_batch *batch, uint8_t number, size_t job, s
     sorghemi_handed handed = sorghemi_step(batch, number, job, report);
     expect_accepted("step", handed.refusal);
     printf("step %d of job %zu", number, job);
-    if (number == SORGHEMI_START_OWN || number == SORGHEMI_START_SPECULATION) {
+    if (number == SORGHEMI_STEP_START_OWN || number == SORGHEMI_STEP_START_SPECULATION) {
         printf(": handed %" PRId32 " %" PRId32, handed.values[0], handed.values[1]);
     }
     printf("\n");
@@ -57,9 +57,10 @@ static void print_end(const sorghemi_batch *batch)
 int main(void)
 {
     const int32_t heights[] = {1500, 1480};
-    const sorghemi_job spike = {.kind = SORGHEMI_SPIKE, .parameter = 1000, .arity = 2,
-                                .accesses = {{0, SORGHEMI_MAYBE_WRITE}, {1, SORGHEMI_READ}}};
-    const sorghemi_job shift = {.kind = SORGHEMI_SHIFT, .parameter = 20, .arity = 1, .accesses = {{0, SORGHEMI_WRITE}}};
+    const sorghemi_job spike = {.kind = SORGHEMI_KIND_SPIKE, .parameter = 1000, .arity = 2,
+                                .accesses = {{0, SORGHEMI_MODE_MAYBE_WRITE}, {1, SORGHEMI_MODE_READ}}};
+    const sorghemi_job shift = {.kind = SORGHEMI_KIND_SHIFT, .parameter = 20, .arity = 1,
+                                .accesses = {{0, SORGHEMI_MODE_WRITE}}};
     const sorghemi_report nothing = {{0, 0, 0, 0}, 0};
 
     sorghemi_batch batch;
@@ -68,14 +69,14 @@ int main(void)
     expect_accepted("insert", sorghemi_batch_insert(&batch, shift));
     expect_accepted("seal", sorghemi_batch_seal(&batch, 1));
 
-    sorghemi_handed to_spike = step(&batch, SORGHEMI_START_OWN, 0, nothing);
+    sorghemi_handed to_spike = step(&batch, SORGHEMI_STEP_START_OWN, 0, nothing);
     sorghemi_choice choice = sorghemi_batch_choose(&batch);
     expect_accepted("choose", choice.refusal);
     printf("chosen: step %d of job %d\n", choice.step, choice.job);
     sorghemi_handed to_shift = step(&batch, choice.step, choice.job, nothing);
-    step(&batch, SORGHEMI_REPORT_SPECULATION, 1, work(&shift, &to_shift));
-    step(&batch, SORGHEMI_REPORT_OWN, 0, work(&spike, &to_spike));
-    step(&batch, SORGHEMI_COMMIT, 1, nothing);
+    step(&batch, SORGHEMI_STEP_REPORT_SPECULATION, 1, work(&shift, &to_shift));
+    step(&batch, SORGHEMI_STEP_REPORT_OWN, 0, work(&spike, &to_spike));
+    step(&batch, SORGHEMI_STEP_COMMIT, 1, nothing);
     print_end(&batch);
     return 0;
 }

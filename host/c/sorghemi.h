@@ -19,47 +19,47 @@
 /* Names for the numbers of the rules. The structs keep the numbers as bytes. */
 
 enum { /* what a job may do with a cell (R3) */
-    SORGHEMI_READ = 0,
-    SORGHEMI_WRITE = 1,
-    SORGHEMI_MAYBE_WRITE = 2,
+    SORGHEMI_MODE_READ = 0,
+    SORGHEMI_MODE_WRITE = 1,
+    SORGHEMI_MODE_MAYBE_WRITE = 2,
 };
 
 enum { /* the kinds of jobs (R11 to R17) */
-    SORGHEMI_OUTSIDE = 0,
-    SORGHEMI_SET = 1,
-    SORGHEMI_SHIFT = 2,
-    SORGHEMI_SPIKE = 3,
-    SORGHEMI_FLOOR = 4,
-    SORGHEMI_MEAN = 5,
-    SORGHEMI_PAIR = 6,
+    SORGHEMI_KIND_OUTSIDE = 0,
+    SORGHEMI_KIND_SET = 1,
+    SORGHEMI_KIND_SHIFT = 2,
+    SORGHEMI_KIND_SPIKE = 3,
+    SORGHEMI_KIND_FLOOR = 4,
+    SORGHEMI_KIND_MEAN = 5,
+    SORGHEMI_KIND_PAIR = 6,
 };
 
 enum { /* the steps (R51 to R55) */
-    SORGHEMI_START_OWN = 0,
-    SORGHEMI_START_SPECULATION = 1, /* start the job's guess */
-    SORGHEMI_REPORT_OWN = 2,
-    SORGHEMI_REPORT_SPECULATION = 3,
-    SORGHEMI_COMMIT = 4, /* settle the job by its guess */
+    SORGHEMI_STEP_START_OWN = 0,
+    SORGHEMI_STEP_START_SPECULATION = 1, /* start the job's guess */
+    SORGHEMI_STEP_REPORT_OWN = 2,
+    SORGHEMI_STEP_REPORT_SPECULATION = 3,
+    SORGHEMI_STEP_COMMIT = 4, /* settle the job by its guess */
 };
 
 enum { /* how a job is settled (R72) */
-    SORGHEMI_NOT_YET = 0,
-    SORGHEMI_BY_OWN_RUN = 1,
-    SORGHEMI_BY_SPECULATION = 2,
+    SORGHEMI_COMMITTED_NOT_YET = 0,
+    SORGHEMI_COMMITTED_BY_OWN_RUN = 1,
+    SORGHEMI_COMMITTED_BY_SPECULATION = 2,
 };
 
 enum { /* the state of a job's guess (R40) */
-    SORGHEMI_NEVER_STARTED = 0,
-    SORGHEMI_OUT = 1,
-    SORGHEMI_STORED = 2,
-    SORGHEMI_DISCARDED = 3, /* thrown away */
+    SORGHEMI_PHASE_NEVER_STARTED = 0,
+    SORGHEMI_PHASE_OUT = 1,
+    SORGHEMI_PHASE_STORED = 2,
+    SORGHEMI_PHASE_DISCARDED = 3, /* thrown away */
 };
 
 enum { /* how a job's guess is judged (R45) */
-    SORGHEMI_NO_RUN = 0,    /* there is none out or stored */
-    SORGHEMI_UNDECIDED = 1, /* it is not yet to be judged */
-    SORGHEMI_VALID = 2,     /* it stands */
-    SORGHEMI_INVALID = 3,   /* it has fallen: it will never be settled, and its worker can give it up */
+    SORGHEMI_VALIDITY_NO_RUN = 0,    /* there is none out or stored */
+    SORGHEMI_VALIDITY_UNDECIDED = 1, /* it is not yet to be judged */
+    SORGHEMI_VALIDITY_VALID = 2,     /* it stands */
+    SORGHEMI_VALIDITY_INVALID = 3,   /* it has fallen: it will never be settled, and its worker can give it up */
 };
 
 /* The refusals: number, name and words. Refusal n is rule R(100 + n). 22 is the fault of a plan, which no call here gives. */
@@ -311,7 +311,8 @@ static const uint32_t sorghemi_header_layout[] = {
 };
 #undef SORGHEMI_AT
 
-/* Whether the library was built with the structs of this header. */
+/* Whether the library was built with the structs of this header. A host that does not open its batch here, but goes on with
+ * a record that it kept, asks this first. */
 static inline bool sorghemi_same_layout(void)
 {
     size_t count = sizeof sorghemi_header_layout / sizeof *sorghemi_header_layout;

@@ -49,14 +49,14 @@ static bool is_of_use(morning *today, size_t job)
     sorghemi_job_answer answer = sorghemi_batch_ask_job(&today->batch, job);
     pthread_mutex_unlock(&today->lock);
     expect_accepted("ask", answer.refusal);
-    return answer.validity == SORGHEMI_UNDECIDED || answer.validity == SORGHEMI_VALID;
+    return answer.validity == SORGHEMI_VALIDITY_UNDECIDED || answer.validity == SORGHEMI_VALIDITY_VALID;
 }
 
 /* The job's check of the values that were handed out. False for a guess that is given up. */
 static bool check(morning *today, sorghemi_choice choice, sorghemi_job job, const int32_t *handed, sorghemi_report *report)
 {
     for (int part = 0; part < PARTS; part++) {
-        if (choice.step == SORGHEMI_START_SPECULATION && !is_of_use(today, choice.job)) {
+        if (choice.step == SORGHEMI_STEP_START_SPECULATION && !is_of_use(today, choice.job)) {
             return false;
         }
         take_a_while();
@@ -72,8 +72,8 @@ static bool check(morning *today, sorghemi_choice choice, sorghemi_job job, cons
 
 static void hand_in(morning *today, sorghemi_choice choice, sorghemi_report report)
 {
-    bool guess = choice.step == SORGHEMI_START_SPECULATION;
-    uint8_t number = guess ? SORGHEMI_REPORT_SPECULATION : SORGHEMI_REPORT_OWN;
+    bool guess = choice.step == SORGHEMI_STEP_START_SPECULATION;
+    uint8_t number = guess ? SORGHEMI_STEP_REPORT_SPECULATION : SORGHEMI_STEP_REPORT_OWN;
     uint8_t refusal = sorghemi_step(&today->batch, number, choice.job, report).refusal;
     /* Refused so, the guess was thrown away while this worker had it. That is no mistake, and nothing is lost. */
     if (!(guess && refusal == SORGHEMI_REFUSED_WRONG_STATE)) {
@@ -87,7 +87,7 @@ static void take(morning *today, sorghemi_choice choice)
     sorghemi_report report = {{0, 0, 0, 0}, 0};
     sorghemi_handed handed = sorghemi_step(&today->batch, choice.step, choice.job, report);
     expect_accepted("step", handed.refusal);
-    if (choice.step != SORGHEMI_COMMIT) {
+    if (choice.step != SORGHEMI_STEP_COMMIT) {
         sorghemi_job job = today->batch.jobs[choice.job];
         pthread_mutex_unlock(&today->lock);
         bool checked = check(today, choice, job, handed.values, &report);
@@ -124,15 +124,15 @@ static void *work(void *shared)
 /* Six gauges. Of the tests some find something and some do not, so that guesses are kept and guesses are thrown away. */
 static void plan(sorghemi_batch *batch)
 {
-    enum { R = SORGHEMI_READ, W = SORGHEMI_WRITE, M = SORGHEMI_MAYBE_WRITE };
+    enum { R = SORGHEMI_MODE_READ, W = SORGHEMI_MODE_WRITE, M = SORGHEMI_MODE_MAYBE_WRITE };
     const int32_t heights[] = {2900, 1500, 1480, 1720, 1390, 1610};
     const sorghemi_job jobs[] = {
-        {SORGHEMI_SPIKE, 1000, 2, {{0, M}, {1, R}}}, {SORGHEMI_SHIFT, 20, 1, {{0, W}}},
-        {SORGHEMI_SPIKE, 1000, 2, {{2, M}, {3, R}}}, {SORGHEMI_SHIFT, 20, 1, {{2, W}}},
-        {SORGHEMI_FLOOR, 1400, 1, {{4, M}}},         {SORGHEMI_MEAN, 0, 3, {{5, W}, {4, R}, {2, R}}},
-        {SORGHEMI_PAIR, 0, 2, {{0, M}, {2, M}}},     {SORGHEMI_FLOOR, 1400, 1, {{1, M}}},
-        {SORGHEMI_SHIFT, -15, 1, {{1, W}}},          {SORGHEMI_MEAN, 0, 3, {{3, W}, {0, R}, {1, R}}},
-        {SORGHEMI_SPIKE, 30, 2, {{5, M}, {3, R}}},   {SORGHEMI_SHIFT, 7, 1, {{5, W}}},
+        {SORGHEMI_KIND_SPIKE, 1000, 2, {{0, M}, {1, R}}}, {SORGHEMI_KIND_SHIFT, 20, 1, {{0, W}}},
+        {SORGHEMI_KIND_SPIKE, 1000, 2, {{2, M}, {3, R}}}, {SORGHEMI_KIND_SHIFT, 20, 1, {{2, W}}},
+        {SORGHEMI_KIND_FLOOR, 1400, 1, {{4, M}}},         {SORGHEMI_KIND_MEAN, 0, 3, {{5, W}, {4, R}, {2, R}}},
+        {SORGHEMI_KIND_PAIR, 0, 2, {{0, M}, {2, M}}},     {SORGHEMI_KIND_FLOOR, 1400, 1, {{1, M}}},
+        {SORGHEMI_KIND_SHIFT, -15, 1, {{1, W}}},          {SORGHEMI_KIND_MEAN, 0, 3, {{3, W}, {0, R}, {1, R}}},
+        {SORGHEMI_KIND_SPIKE, 30, 2, {{5, M}, {3, R}}},   {SORGHEMI_KIND_SHIFT, 7, 1, {{5, W}}},
     };
     expect_accepted("open", sorghemi_batch_open(batch, heights, sizeof heights / sizeof *heights));
     for (size_t job = 0; job < sizeof jobs / sizeof *jobs; job++) {

@@ -52,29 +52,28 @@ fn constant(name: &str) -> String {
     words
 }
 
-/// The list of constants in the header, from 0 on, with the prefix taken off.
-fn header_has(names: Vec<String>) {
-    let first = HEADER.find(&format!("    SORGHEMI_{} = 0,", constant(&names[0]))).expect("the first of them");
-    let list = HEADER[first..].split('}').next().unwrap();
-    let lines: Vec<&str> =
-        list.lines().map(|line| line.split(',').next().unwrap().trim()).filter(|line| !line.is_empty()).collect();
+/// The header's constants of the list, from 0 on: `Mode` has SORGHEMI_MODE_READ and so on.
+fn header_has(list: &str, names: Vec<String>) {
+    let prefix = format!("SORGHEMI_{}_", constant(list));
+    let lines = HEADER.lines().map(str::trim).filter(|line| line.starts_with(&prefix));
+    let found: Vec<&str> = lines.map(|line| line.split(',').next().unwrap()).collect();
     let expected = names.iter().enumerate();
-    let expected: Vec<String> = expected.map(|(number, name)| format!("SORGHEMI_{} = {number}", constant(name))).collect();
-    assert_eq!(lines, expected);
+    let expected: Vec<String> = expected.map(|(number, name)| format!("{prefix}{} = {number}", constant(name))).collect();
+    assert_eq!(found, expected);
 }
 
 #[test]
 fn the_header_has_the_names_of_the_wrapper() {
-    macro_rules! names {
+    macro_rules! check {
         ($list:ident) => {
-            (0..).map_while($list::from_number).map(|one| format!("{one:?}")).collect()
+            header_has(stringify!($list), (0..).map_while($list::from_number).map(|one| format!("{one:?}")).collect())
         };
     }
-    header_has(names!(Mode));
-    header_has(names!(Kind));
-    header_has(names!(Step));
-    header_has(names!(Committed));
-    header_has(names!(Phase));
-    header_has(names!(Validity));
+    check!(Mode);
+    check!(Kind);
+    check!(Step);
+    check!(Committed);
+    check!(Phase);
+    check!(Validity);
     assert!(HEADER.contains(&format!("#define SORGHEMI_LONGEST_ANSWER {LONGEST_ANSWER}\n")));
 }
