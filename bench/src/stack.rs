@@ -45,6 +45,7 @@ fn apart<T>(call: impl FnOnce() -> T) -> T {
 }
 
 /// The stack that one call touches, which may be much.
+#[cfg(feature = "proved")]
 pub fn of<T>(call: impl FnOnce() -> T) -> usize {
     paint::<MOST_WORDS>();
     black_box(apart(call));
