@@ -61,7 +61,7 @@ impl Random {
             _ => {
                 let most = cells.min(4);
                 let count = if self.one_in(3) { 1 + self.below(most) } else { most };
-                Job::outside(&self.accesses([a, b, c, d])[..count])
+                Job::outside(0, &self.accesses([a, b, c, d])[..count])
             }
         }
     }
