@@ -66,3 +66,8 @@ pub use numbers::{Committed, Kind, Mode, Phase, Step, Validity};
 pub use plan::{answer, LONGEST_ANSWER};
 pub use raw::{Access, JobSet, Record, Run};
 pub use refusal::Refusal;
+
+/// The example on the project's first page, tried with the others.
+#[cfg(doctest)]
+#[doc = include_str!("../../../README.md")]
+struct FirstPage;
