@@ -46,9 +46,12 @@ isInvalid s j = invalidGiven s (invalidBelow s j) j
 abbrev pub isValid : Snapshot → ℕ → Bool
 isValid s j = isLive (s .phase j) && not (isInvalid s j)
 
--- R45: how the guess of job j is judged: 3 it has fallen, 2 it stands, 1 it is not yet to be judged, 0 there is none.
+-- R45: how the guess of job j is judged: 0 there is none out or stored, 3 it has fallen, 2 it stands, 1 it is not yet to be judged.
+abbrev pub judgedAs : Bool → Bool → Bool → ℕ
+judgedAs live invalid ready = cond live (cond invalid 3 (cond ready 2 1)) 0
+
 unfoldable pub validity : Snapshot → ℕ → ℕ
-validity s j = cond (isLive (s .phase j)) (cond (isInvalid s j) 3 (cond (isReady s j) 2 1)) 0
+validity s j = judgedAs (isLive (s .phase j)) (isInvalid s j) (isReady s j)
 
 -- R115: a guess of job j cannot start, since a job that it would take from has no stored guess, or a fallen one.
 abbrev pub unusable : Snapshot → ℕ → Bool

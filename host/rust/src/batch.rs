@@ -2,23 +2,9 @@
 
 use crate::job::{Job, Report};
 use crate::layout;
+use crate::numbers::{Committed, Phase, Step, Validity};
 use crate::raw::{self, Record};
 use crate::refusal::Refusal;
-
-/// The five steps, by their numbers.
-#[derive(Clone, Copy, Debug, PartialEq, Eq)]
-pub enum Step {
-    /// Start the job's own run.
-    StartOwn = 0,
-    /// Start its speculative run, a guess.
-    StartSpeculation = 1,
-    /// Report on its own run.
-    ReportOwn = 2,
-    /// Report on its guess.
-    ReportSpeculation = 3,
-    /// Settle the job by its guess.
-    Commit = 4,
-}
 
 /// A step worth taking next.
 #[derive(Clone, Copy, Debug, PartialEq, Eq)]
@@ -34,14 +20,16 @@ pub struct Choice {
 /// How a job stands.
 #[derive(Clone, Copy, Debug, PartialEq, Eq)]
 pub struct JobState {
-    /// 0 not settled, 1 settled by its own run, 2 by its guess.
-    pub committed: u8,
-    /// The mark of a settled job; 0 before that.
-    pub wrote: u8,
+    /// Whether it is settled, and how.
+    pub committed: Committed,
+    /// The mark of a settled job: whether its maybe-write cells were written. False before that.
+    pub wrote: bool,
     /// Whether its own run is out.
     pub running: bool,
-    /// Its guess: 0 never started, 1 out, 2 with a stored report, 3 thrown away.
-    pub phase: u8,
+    /// The state of its guess.
+    pub phase: Phase,
+    /// How its guess is judged.
+    pub validity: Validity,
     /// The values that its run was handed.
     pub handed: [i32; 4],
     /// The values of the report on it.
@@ -65,28 +53,40 @@ pub struct Progress {
     pub finished: bool,
 }
 
-/// A batch. Every call may be refused, and then changes nothing.
-#[derive(Clone, Debug, PartialEq, Eq)]
+/// A batch. A call that the rules do not allow is refused, and then changes nothing.
+///
+/// Its record is always in form: [`open`](Batch::open) makes it so, [`from_record`](Batch::from_record) checks it, nothing but the
+/// library writes it, and every call keeps it in form (R91, R94). So no method refuses it with
+/// [`OUT_OF_FORM`](Refusal::OUT_OF_FORM), and questions that only such a record would not answer have no error.
+#[derive(Clone, PartialEq, Eq)]
 pub struct Batch {
     record: Record,
 }
 
+/// Why an answer that only a record out of form would not give is there.
+const IN_FORM: &str = "a batch is in form";
+
 impl Batch {
     /// Opens a batch whose cells hold the heights, 1 to 64 of them.
+    ///
+    /// # Errors
+    ///
+    /// [`CELL_COUNT`](Refusal::CELL_COUNT). [`OUT_OF_FORM`](Refusal::OUT_OF_FORM) if the program was linked with a library of
+    /// another layout.
     pub fn open(heights: &[i32]) -> Result<Batch, Refusal> {
-        if !layout::is_library_s() {
-            return Err(Refusal::OUT_OF_FORM);
-        }
+        layout::check()?;
         let answer = unsafe { raw::sorghemi_open(heights.as_ptr(), heights.len()) };
         Refusal::check(answer.refusal)?;
         Ok(Batch { record: answer.batch })
     }
 
-    /// A batch from a record that the host kept. Every call, this one too, refuses a record that is out of form with 32.
+    /// A batch from a record that the host kept.
+    ///
+    /// # Errors
+    ///
+    /// [`OUT_OF_FORM`](Refusal::OUT_OF_FORM) where the record is, or if the program was linked with a library of another layout.
     pub fn from_record(record: Record) -> Result<Batch, Refusal> {
-        if !layout::is_library_s() {
-            return Err(Refusal::OUT_OF_FORM);
-        }
+        layout::check()?;
         let batch = Batch { record };
         batch.progress()?;
         Ok(batch)
@@ -98,6 +98,12 @@ impl Batch {
     }
 
     /// Inserts the job as the last one, and tells its number.
+    ///
+    /// # Errors
+    ///
+    /// [`SEALED`](Refusal::SEALED), [`TOO_MANY_JOBS`](Refusal::TOO_MANY_JOBS), [`ACCESS_COUNT`](Refusal::ACCESS_COUNT),
+    /// [`NO_SUCH_CELL`](Refusal::NO_SUCH_CELL), [`NO_SUCH_MODE`](Refusal::NO_SUCH_MODE), [`CELL_TWICE`](Refusal::CELL_TWICE),
+    /// [`WRONG_KIND`](Refusal::WRONG_KIND).
     pub fn insert(&mut self, job: Job) -> Result<usize, Refusal> {
         let answer = unsafe { raw::sorghemi_insert(self.record, job) };
         Refusal::check(answer.refusal)?;
@@ -106,6 +112,10 @@ impl Batch {
     }
 
     /// Fixes the list of jobs, and says whether guesses may be started.
+    ///
+    /// # Errors
+    ///
+    /// [`SEALED`](Refusal::SEALED).
     pub fn seal(&mut self, guessing: bool) -> Result<(), Refusal> {
         let answer = unsafe { raw::sorghemi_seal(self.record, guessing as u8) };
         Refusal::check(answer.refusal)?;
@@ -115,72 +125,123 @@ impl Batch {
 
     /// The step on the job, in the record where it stands. The values are those handed to a run that was started, and zeros
     /// otherwise. Only the two reporting steps look at the report.
+    ///
+    /// # Errors
+    ///
+    /// Those of the step's own method below.
     pub fn step(&mut self, step: Step, job: usize, report: Report) -> Result<[i32; 4], Refusal> {
-        let handed = unsafe { raw::sorghemi_step(&mut self.record, step as u8, job, report) };
+        let handed = unsafe { raw::sorghemi_step(&mut self.record, step.number(), job, report) };
         Refusal::check(handed.refusal)?;
         Ok(handed.values)
     }
 
     /// The same step by value: the batch as it is after it, and the values.
+    ///
+    /// # Errors
+    ///
+    /// Those of [`step`](Batch::step).
     pub fn stepped(&self, step: Step, job: usize, report: Report) -> Result<(Batch, [i32; 4]), Refusal> {
-        let started = unsafe { raw::sorghemi_step_by_value(self.record, step as u8, job, report) };
+        let started = unsafe { raw::sorghemi_step_by_value(self.record, step.number(), job, report) };
         Refusal::check(started.refusal)?;
         Ok((Batch { record: started.batch }, started.handed))
     }
 
-    /// Starts the job's own run: the present heights of its cells.
+    /// Starts the job's own run: the present heights of its cells. A guess of the job that has fallen is thrown away.
+    ///
+    /// # Errors
+    ///
+    /// [`NOT_SEALED`](Refusal::NOT_SEALED), [`NO_SUCH_JOB`](Refusal::NO_SUCH_JOB), [`WRONG_STATE`](Refusal::WRONG_STATE),
+    /// [`MUST_WAIT`](Refusal::MUST_WAIT), [`GUESS_STANDS`](Refusal::GUESS_STANDS).
     pub fn start_own(&mut self, job: usize) -> Result<[i32; 4], Refusal> {
         self.step(Step::StartOwn, job, Report::default())
     }
 
     /// Starts the job's guess: heights as if the uncertain jobs before it changed nothing.
+    ///
+    /// # Errors
+    ///
+    /// [`NOT_SEALED`](Refusal::NOT_SEALED), [`NO_SUCH_JOB`](Refusal::NO_SUCH_JOB), [`GUESSING_OFF`](Refusal::GUESSING_OFF),
+    /// [`WRONG_STATE`](Refusal::WRONG_STATE), [`JOB_READY`](Refusal::JOB_READY), [`MUST_WAIT`](Refusal::MUST_WAIT).
     pub fn start_speculation(&mut self, job: usize) -> Result<[i32; 4], Refusal> {
         self.step(Step::StartSpeculation, job, Report::default())
     }
 
     /// Reports on the job's own run: writes its cells and settles it.
+    ///
+    /// # Errors
+    ///
+    /// [`NOT_SEALED`](Refusal::NOT_SEALED), [`NO_SUCH_JOB`](Refusal::NO_SUCH_JOB), [`WRONG_STATE`](Refusal::WRONG_STATE),
+    /// [`WRONG_MARK`](Refusal::WRONG_MARK).
     pub fn report_own(&mut self, job: usize, report: Report) -> Result<(), Refusal> {
         self.step(Step::ReportOwn, job, report).map(drop)
     }
 
     /// Reports on the job's guess: no cell changes.
+    ///
+    /// # Errors
+    ///
+    /// [`NOT_SEALED`](Refusal::NOT_SEALED), [`NO_SUCH_JOB`](Refusal::NO_SUCH_JOB), [`WRONG_STATE`](Refusal::WRONG_STATE),
+    /// [`WRONG_MARK`](Refusal::WRONG_MARK). With several workers `WRONG_STATE` is no mistake: the guess was thrown away while
+    /// one had it.
     pub fn report_speculation(&mut self, job: usize, report: Report) -> Result<(), Refusal> {
         self.step(Step::ReportSpeculation, job, report).map(drop)
     }
 
     /// Settles the job by its guess: writes the stored report into the cells.
+    ///
+    /// # Errors
+    ///
+    /// [`NOT_SEALED`](Refusal::NOT_SEALED), [`NO_SUCH_JOB`](Refusal::NO_SUCH_JOB), [`WRONG_STATE`](Refusal::WRONG_STATE),
+    /// [`MUST_WAIT`](Refusal::MUST_WAIT), [`GUESS_FALLEN`](Refusal::GUESS_FALLEN).
     pub fn commit(&mut self, job: usize) -> Result<(), Refusal> {
         self.step(Step::Commit, job, Report::default()).map(drop)
     }
 
-    /// The step worth taking next; refused with 19 where a report has to come first, or all is done.
+    /// The step worth taking next.
+    ///
+    /// # Errors
+    ///
+    /// [`NOT_SEALED`](Refusal::NOT_SEALED). [`NOTHING_TO_START`](Refusal::NOTHING_TO_START) where a report has to come first, or
+    /// all is done; [`finished`](Batch::finished) tells which.
     pub fn choose(&self) -> Result<Choice, Refusal> {
         let choice = unsafe { raw::sorghemi_choose(self.record) };
         Refusal::check(choice.refusal)?;
-        let step = match choice.step {
-            4 => Step::Commit,
-            0 => Step::StartOwn,
-            _ => Step::StartSpeculation,
-        };
+        let step = Step::from_number(choice.step).expect("the chooser names a step");
         Ok(Choice { step, job: choice.job as usize, chain: choice.chain as usize })
     }
 
     /// The height of a cell.
+    ///
+    /// # Errors
+    ///
+    /// [`NO_SUCH_CELL`](Refusal::NO_SUCH_CELL).
     pub fn cell(&self, cell: usize) -> Result<i32, Refusal> {
         let answer = unsafe { raw::sorghemi_ask_cell(self.record, cell) };
         Refusal::check(answer.refusal)?;
         Ok(answer.height)
     }
 
+    /// The heights of all cells.
+    pub fn cells(&self) -> Vec<i32> {
+        let mut heights = vec![0; self.record.cell_count as usize];
+        self.copy_out(&mut heights, 0).expect(IN_FORM);
+        heights
+    }
+
     /// How a job stands.
+    ///
+    /// # Errors
+    ///
+    /// [`NO_SUCH_JOB`](Refusal::NO_SUCH_JOB).
     pub fn job(&self, job: usize) -> Result<JobState, Refusal> {
         let answer = unsafe { raw::sorghemi_ask_job(self.record, job) };
         Refusal::check(answer.refusal)?;
         Ok(JobState {
-            committed: answer.committed,
-            wrote: answer.wrote,
+            committed: Committed::from_number(answer.committed).expect(IN_FORM),
+            wrote: answer.wrote != 0,
             running: answer.running != 0,
-            phase: answer.phase,
+            phase: Phase::from_number(answer.phase).expect(IN_FORM),
+            validity: Validity::from_number(answer.validity).expect(IN_FORM),
             handed: answer.handed,
             reported: answer.reported,
             job: answer.job,
@@ -188,6 +249,10 @@ impl Batch {
     }
 
     /// How the batch stands.
+    ///
+    /// # Errors
+    ///
+    /// None, since a batch is in form; the question is what [`from_record`](Batch::from_record) checks it by.
     pub fn progress(&self) -> Result<Progress, Refusal> {
         let answer = unsafe { raw::sorghemi_ask_batch(self.record) };
         Refusal::check(answer.refusal)?;
@@ -200,7 +265,16 @@ impl Batch {
         })
     }
 
+    /// Whether the batch is sealed and every job settled (R8).
+    pub fn finished(&self) -> bool {
+        self.progress().expect(IN_FORM).finished
+    }
+
     /// Copies the cells to the buffer's places from `at` on; all other places keep their values.
+    ///
+    /// # Errors
+    ///
+    /// [`BUFFER_TOO_SMALL`](Refusal::BUFFER_TOO_SMALL).
     pub fn copy_out(&self, buffer: &mut [i32], at: usize) -> Result<(), Refusal> {
         let number = unsafe { raw::sorghemi_copy_out(self.record, buffer.as_mut_ptr(), buffer.len(), at) };
         Refusal::check(number)

@@ -1,23 +1,15 @@
 //! Jobs and reports.
 
-use crate::raw::Access;
-
-/// What a job may do with a cell.
-#[derive(Clone, Copy, Debug, PartialEq, Eq)]
-pub enum Mode {
-    /// It reads the cell.
-    Read = 0,
-    /// It writes the cell, and may use the old value.
-    Write = 1,
-    /// It writes the cell if its report says so.
-    MaybeWrite = 2,
-}
+use crate::layout;
+use crate::numbers::{Kind, Mode};
+use crate::raw::{self, Access};
+use crate::refusal::Refusal;
 
 /// A job. The first `arity` accesses are in use.
 #[repr(C)]
 #[derive(Clone, Copy, Debug, PartialEq, Eq)]
 pub struct Job {
-    /// The kind: 0 outside, 1 set, 2 shift, 3 spike, 4 floor, 5 mean, 6 pair.
+    /// The number of its [`Kind`].
     pub kind: u8,
     /// The kind's parameter.
     pub parameter: i32,
@@ -32,45 +24,71 @@ impl Job {
     pub fn new(kind: u8, parameter: i32, accesses: &[(u8, Mode)]) -> Job {
         let mut kept = [Access { cell: 0, mode: 0 }; 4];
         for (place, &(cell, mode)) in kept.iter_mut().zip(accesses) {
-            *place = Access { cell, mode: mode as u8 };
+            *place = Access { cell, mode: mode.number() };
         }
         let arity = accesses.len().min(255) as u8;
         Job { kind, parameter, arity, accesses: kept }
     }
 
-    /// A job whose result is the worker's own.
-    pub fn outside(accesses: &[(u8, Mode)]) -> Job {
-        Job::new(0, 0, accesses)
+    /// A job whose result is the worker's own. The engine keeps its parameter, and makes nothing of it.
+    pub fn outside(parameter: i32, accesses: &[(u8, Mode)]) -> Job {
+        Job::new(Kind::Outside.number(), parameter, accesses)
     }
 
     /// The cell becomes the height.
     pub fn set(cell: u8, height: i32) -> Job {
-        Job::new(1, height, &[(cell, Mode::Write)])
+        Job::new(Kind::Set.number(), height, &[(cell, Mode::Write)])
     }
 
     /// The cell grows by the distance, held at the end of the 32-bit range that it would pass.
     pub fn shift(cell: u8, distance: i32) -> Job {
-        Job::new(2, distance, &[(cell, Mode::Write)])
+        Job::new(Kind::Shift.number(), distance, &[(cell, Mode::Write)])
     }
 
     /// If the cell and its neighbour are further apart than the limit, the cell becomes the neighbour's height.
     pub fn spike(cell: u8, neighbour: u8, limit: i32) -> Job {
-        Job::new(3, limit, &[(cell, Mode::MaybeWrite), (neighbour, Mode::Read)])
+        Job::new(Kind::Spike.number(), limit, &[(cell, Mode::MaybeWrite), (neighbour, Mode::Read)])
     }
 
     /// If the cell is below the height, it becomes the height.
     pub fn floor(cell: u8, height: i32) -> Job {
-        Job::new(4, height, &[(cell, Mode::MaybeWrite)])
+        Job::new(Kind::Floor.number(), height, &[(cell, Mode::MaybeWrite)])
     }
 
     /// The cell becomes the mean of the two others, rounded towards minus infinity.
     pub fn mean(cell: u8, one: u8, other: u8) -> Job {
-        Job::new(5, 0, &[(cell, Mode::Write), (one, Mode::Read), (other, Mode::Read)])
+        Job::new(Kind::Mean.number(), 0, &[(cell, Mode::Write), (one, Mode::Read), (other, Mode::Read)])
     }
 
     /// If the first cell is above the second, they are exchanged.
     pub fn pair(first: u8, second: u8) -> Job {
-        Job::new(6, 0, &[(first, Mode::MaybeWrite), (second, Mode::MaybeWrite)])
+        Job::new(Kind::Pair.number(), 0, &[(first, Mode::MaybeWrite), (second, Mode::MaybeWrite)])
+    }
+
+    /// The kind by its name; none for a number that is no kind, which inserting refuses.
+    pub fn named_kind(&self) -> Option<Kind> {
+        Kind::from_number(self.kind)
+    }
+
+    /// What a worker reports of the values handed to a run of the job, as the rules of its kind say (R10 to R18). It looks at
+    /// kind and parameter only.
+    ///
+    /// ```
+    /// # use sorghemi::{Job, Mode, Refusal, Report};
+    /// assert_eq!(Job::spike(0, 1, 1000).result([2900, 1500, 0, 0]), Ok(Report::written(&[1500, 1500])));
+    /// assert_eq!(Job::outside(0, &[(0, Mode::Write)]).result([1; 4]), Err(Refusal::WRONG_KIND));
+    /// ```
+    ///
+    /// # Errors
+    ///
+    /// [`WRONG_KIND`](Refusal::WRONG_KIND) where the kind is not 1 to 6: the result of an outside job is the worker's own.
+    /// [`OUT_OF_FORM`](Refusal::OUT_OF_FORM) if the program was linked with a library of another layout.
+    pub fn result(&self, handed: [i32; 4]) -> Result<Report, Refusal> {
+        layout::check()?;
+        // SAFETY: the four values are this call's own.
+        let outcome = unsafe { raw::sorghemi_result(self.kind, self.parameter, &handed) };
+        Refusal::check(outcome.refusal)?;
+        Ok(Report { values: outcome.values, wrote: outcome.wrote })
     }
 }
 

@@ -3,6 +3,7 @@
 
 use crate::job::{Job, Report};
 use crate::raw::*;
+use crate::refusal::Refusal;
 use std::mem::{offset_of, size_of};
 use std::sync::OnceLock;
 
@@ -45,13 +46,18 @@ fn is_same(ours: &[u32], library: &[u32]) -> bool {
     library.split_last() == Some((&0, ours))
 }
 
-/// Whether the library was built with these structs. Asked once.
-pub(crate) fn is_library_s() -> bool {
+/// Refuses a library that was not built with these structs. It is asked once.
+pub(crate) fn check() -> Result<(), Refusal> {
     static SAME: OnceLock<bool> = OnceLock::new();
-    *SAME.get_or_init(|| {
+    let same = *SAME.get_or_init(|| {
         let ours = wrapper_layout();
         is_same(&ours, &library_layout(ours.len()))
-    })
+    });
+    if same {
+        Ok(())
+    } else {
+        Err(Refusal::OUT_OF_FORM)
+    }
 }
 
 #[cfg(test)]

@@ -24,31 +24,50 @@
 //! // The test found nothing, so the guess stands and is settled without running the shift again.
 //! batch.report_own(spike, Report::of(&[1500, 1480]))?;
 //! batch.commit(shift)?;
-//! assert!(batch.progress()?.finished);
-//! assert_eq!(batch.cell(0)?, 1520);
+//! assert!(batch.finished());
+//! assert_eq!(batch.cells(), [1520, 1480]);
 //! # Ok(())
 //! # }
 //! ```
 //!
-//! A call that the rules do not allow is refused and changes nothing. The refusal has a number and its meaning in words:
+//! A call that the rules do not allow is refused and changes nothing. The refusal has a name, a number and words:
 //!
 //! ```
-//! # use sorghemi::Batch;
+//! # use sorghemi::{Batch, Refusal};
 //! let refusal = Batch::open(&[]).unwrap_err();
+//! assert_eq!(refusal, Refusal::CELL_COUNT);
 //! assert_eq!(refusal.number(), 1);
 //! assert_eq!(refusal.to_string(), "refused with 1: a batch has 1 to 64 cells");
 //! ```
+//!
+//! A host with threads puts one lock round its batch; `examples/threads.rs` is such a host, and host/README.md says what it has to
+//! know.
+//!
+//! # Stack
+//!
+//! A step touches 100 KB of stack, no other call on a batch more, and [`answer`] 132 KB (host/README.md has the figures). A
+//! thread with 256 KiB has enough; Rust's have 2 MiB if nothing else is said.
 #![warn(missing_docs)]
 
 mod batch;
 mod bytes;
 mod job;
 mod layout;
+mod numbers;
+mod plan;
 pub mod raw;
 mod refusal;
+mod show;
 
-pub use batch::{Batch, Choice, JobState, Progress, Step};
-pub use job::{Job, Mode, Report};
+pub use batch::{Batch, Choice, JobState, Progress};
+pub use job::{Job, Report};
 pub use layout::{library_layout, wrapper_layout};
+pub use numbers::{Committed, Kind, Mode, Phase, Step, Validity};
+pub use plan::{answer, LONGEST_ANSWER};
 pub use raw::{Access, JobSet, Record, Run};
 pub use refusal::Refusal;
+
+/// The example on the project's first page, tried with the others.
+#[cfg(doctest)]
+#[doc = include_str!("../../../README.md")]
+struct FirstPage;

@@ -1,15 +1,76 @@
-//! Refusals: their numbers, with their meanings in words. Refusal n is rule R(100 + n) of docs/RULES.md.
+//! Refusals: each one's number, name and words, in one table. Refusal n is rule R(100 + n) of docs/RULES.md.
 
 use std::fmt;
 
-/// Why a call was refused. A refused call changes nothing.
-#[derive(Clone, Copy, Debug, PartialEq, Eq, Hash)]
+/// Why a call was refused (R101 to R132). A refused call changes nothing.
+///
+/// Each refusal has a constant, which can stand in a pattern:
+///
+/// ```
+/// # use sorghemi::{Batch, Job, Refusal};
+/// # let mut batch = Batch::open(&[1500]).unwrap();
+/// # batch.insert(Job::set(0, 1400)).unwrap();
+/// # batch.seal(true).unwrap();
+/// # batch.start_own(0).unwrap();
+/// match batch.choose() {
+///     Ok(choice) => println!("a worker can take job {}", choice.job),
+///     Err(Refusal::NOTHING_TO_START) => println!("wait for a report"),
+///     Err(refusal) => panic!("{refusal}"),
+/// }
+/// ```
+#[derive(Clone, Copy, PartialEq, Eq, Hash)]
 pub struct Refusal(u8);
 
-impl Refusal {
-    /// The record is out of form, or was made for a library with another layout.
-    pub const OUT_OF_FORM: Refusal = Refusal(32);
+macro_rules! refusals {
+    ($($number:literal $name:ident $words:literal)*) => {
+        impl Refusal {
+            $(
+                #[doc = concat!("Refused with ", $number, ": ", $words, ".")]
+                pub const $name: Refusal = Refusal($number);
+            )*
 
+            /// All refusals, in the order of their numbers.
+            pub const ALL: &'static [Refusal] = &[$(Refusal::$name),*];
+
+            /// Name and words.
+            const fn entry(self) -> Option<(&'static str, &'static str)> {
+                match self.0 {
+                    $($number => Some((stringify!($name), $words)),)*
+                    _ => None,
+                }
+            }
+        }
+    };
+}
+
+// The header for C and host/README.md have the same table (tests/names.rs).
+refusals! {
+    1 CELL_COUNT "a batch has 1 to 64 cells"
+    2 SEALED "the list of jobs is sealed"
+    3 TOO_MANY_JOBS "128 jobs are held already"
+    4 ACCESS_COUNT "a job has 1 to 4 accesses"
+    5 NO_SUCH_CELL "there is no such cell"
+    6 NO_SUCH_MODE "a mode is 0 (read), 1 (write) or 2 (maybe-write)"
+    7 CELL_TWICE "a cell stands twice in the job"
+    8 WRONG_KIND "there is no such kind, its modes are others, or it has no result built in"
+    9 WRONG_SWITCH "the guess switch is 0 or 1"
+    10 NOT_SEALED "the list of jobs is not sealed yet"
+    11 NO_SUCH_JOB "there is no such job"
+    12 GUESSING_OFF "guessing is off"
+    13 WRONG_STATE "the job is not in the state for this step"
+    14 JOB_READY "the job is ready: it needs no guess"
+    15 MUST_WAIT "an earlier job that this one waits for is not settled, or has no report that stands to take a value from"
+    16 WRONG_MARK "a mark is 0 or 1, and 1 only from a job that maybe-writes"
+    17 GUESS_STANDS "the job's guess stands: report or settle it"
+    18 GUESS_FALLEN "the guess has fallen"
+    19 NOTHING_TO_START "no step 4, 0 or 1 is allowed now"
+    20 BUFFER_TOO_SMALL "the buffer has fewer places left than there are cells, or than a plan's answer may take"
+    21 NO_SUCH_STEP "a step's number is 0 to 4; of a plan: the line is not in form, or the plan ends too soon"
+    22 PLAN_TOO_LONG "a plan has at most 65,536 bytes"
+    32 OUT_OF_FORM "the record is out of form, or made for a library with another layout"
+}
+
+impl Refusal {
     /// What an answer's number says: 0 is no refusal.
     pub(crate) fn check(number: u8) -> Result<(), Refusal> {
         match number {
@@ -18,44 +79,36 @@ impl Refusal {
         }
     }
 
+    /// The refusal with the number, if there is one. The fault of a plan has such a number too ([`answer`](crate::answer)).
+    pub fn from_number(number: u8) -> Option<Refusal> {
+        Refusal(number).entry().map(|_| Refusal(number))
+    }
+
     /// The number.
-    pub fn number(self) -> u8 {
+    pub const fn number(self) -> u8 {
         self.0
+    }
+
+    /// The name of its constant.
+    pub fn name(self) -> &'static str {
+        self.entry().map_or("UNKNOWN", |(name, _)| name)
     }
 
     /// What the number means, in words.
     pub fn meaning(self) -> &'static str {
-        match self.0 {
-            1 => "a batch has 1 to 64 cells",
-            2 => "the list of jobs is sealed",
-            3 => "128 jobs are held already",
-            4 => "a job has 1 to 4 accesses",
-            5 => "there is no such cell",
-            6 => "a mode is 0 (read), 1 (write) or 2 (maybe-write)",
-            7 => "a cell stands twice in the job",
-            8 => "there is no such kind, or its modes are others",
-            9 => "the guess switch is 0 or 1",
-            10 => "the list of jobs is not sealed yet",
-            11 => "there is no such job",
-            12 => "guessing is off",
-            13 => "the job is not in the state for this step",
-            14 => "the job is ready: it needs no guess",
-            15 => "an earlier job that this one waits for is not settled, or has no report that stands to take a value from",
-            16 => "a mark is 0 or 1, and 1 only from a job that maybe-writes",
-            17 => "the job's guess stands: report or settle it",
-            18 => "the guess has fallen",
-            19 => "no step 4, 0 or 1 is allowed now",
-            20 => "the buffer has fewer places left than there are cells",
-            21 => "a step's number is 0 to 4",
-            32 => "the record is out of form",
-            _ => "a number that this version does not know",
-        }
+        self.entry().map_or("a number that this version does not know", |(_, words)| words)
     }
 }
 
 impl fmt::Display for Refusal {
     fn fmt(&self, f: &mut fmt::Formatter) -> fmt::Result {
         write!(f, "refused with {}: {}", self.0, self.meaning())
+    }
+}
+
+impl fmt::Debug for Refusal {
+    fn fmt(&self, f: &mut fmt::Formatter) -> fmt::Result {
+        write!(f, "{} ({})", self.name(), self.0)
     }
 }
 
@@ -66,11 +119,16 @@ mod tests {
     use super::*;
 
     #[test]
-    fn every_number_has_words() {
+    fn every_number_of_the_rules_is_in_the_table() {
+        let rules = include_str!("../../../docs/RULES.md");
         let unknown = Refusal(0).meaning();
-        for number in (1..=21).chain([32]) {
-            assert_ne!(Refusal(number).meaning(), unknown, "{number}");
+        for number in 0..=155 {
+            let is_rule = number > 0 && rules.contains(&format!("- **R{}** {number}, ", 100 + u16::from(number)));
+            assert_eq!(Refusal::ALL.contains(&Refusal(number)), is_rule, "{number}");
+            assert_eq!(Refusal::from_number(number).is_some(), is_rule, "{number}");
+            assert_eq!(Refusal(number).meaning() != unknown, is_rule, "{number}");
         }
-        assert_eq!(Refusal(33).meaning(), unknown);
+        assert_eq!(Refusal::ALL.len(), 23);
+        assert!(include_str!("../../c/sorghemi.h").contains(unknown));
     }
 }

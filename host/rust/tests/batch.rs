@@ -1,9 +1,23 @@
 //! The wrapper over the archive: batches run to their end, every refusal that a caller can meet, and the record kept.
 
-use sorghemi::{Batch, Job, Mode, Record, Refusal, Report, Step};
+use sorghemi::{answer, Batch, Committed, Job, JobState, Kind, Mode, Phase, Record, Refusal, Report, Step, Validity};
 
-fn number<T: std::fmt::Debug>(result: Result<T, Refusal>) -> u8 {
-    result.unwrap_err().number()
+/// A small generator of random numbers, the same in every run.
+struct Random(u64);
+
+impl Random {
+    fn below(&mut self, limit: u8) -> u8 {
+        self.0 = self.0.wrapping_mul(6364136223846793005).wrapping_add(1442695040888963407);
+        (self.0 >> 40) as u8 % limit
+    }
+
+    fn step(&mut self) -> Step {
+        Step::from_number(self.below(5)).unwrap()
+    }
+
+    fn report(&mut self) -> Report {
+        Report { values: [i32::from(self.below(100)); 4], wrote: self.below(3) }
+    }
 }
 
 fn sealed(heights: &[i32], jobs: &[Job]) -> Batch {
@@ -15,22 +29,6 @@ fn sealed(heights: &[i32], jobs: &[Job]) -> Batch {
     batch
 }
 
-/// The values that a job of kinds 1 to 6 leaves, and its mark.
-fn result(job: &Job, handed: [i32; 4]) -> Report {
-    let [a, b, c, _] = handed.map(i64::from);
-    let p = i64::from(job.parameter);
-    let low = |x: i64| x.clamp(i32::MIN.into(), i32::MAX.into()) as i32;
-    match job.kind {
-        1 => Report::of(&[job.parameter]),
-        2 => Report::of(&[low(a + p)]),
-        3 if (a - b).abs() > p => Report::written(&[low(b)]),
-        4 if a < p => Report::written(&[low(p)]),
-        5 => Report::of(&[low((b + c).div_euclid(2))]),
-        6 if a > b => Report::written(&[low(b), low(a)]),
-        _ => Report::of(&handed),
-    }
-}
-
 #[test]
 fn thursday() {
     let mut batch = sealed(&[2900, 1500], &[Job::spike(0, 1, 1000), Job::shift(0, 20)]);
@@ -39,16 +37,59 @@ fn thursday() {
     batch.report_speculation(1, Report::of(&[2920])).unwrap();
     batch.report_own(0, Report::written(&[1500])).unwrap();
     // The spike test struck 2900 out, so the guess has fallen and the shift runs again.
-    assert_eq!(number(batch.commit(1)), 18);
+    assert_eq!(batch.commit(1), Err(Refusal::GUESS_FALLEN));
     assert_eq!(batch.start_own(1), Ok([1500, 0, 0, 0]));
     batch.report_own(1, Report::of(&[1520])).unwrap();
-    assert!(batch.progress().unwrap().finished);
+    assert!(batch.finished());
     let mut heights = [7; 4];
     batch.copy_out(&mut heights, 1).unwrap();
     assert_eq!(heights, [7, 1520, 1500, 7]);
-    let job = batch.job(0).unwrap();
-    assert_eq!((job.committed, job.wrote, job.handed[0], job.reported[0]), (1, 1, 2900, 1500));
-    assert_eq!(batch.job(1).unwrap().phase, 3);
+    assert_eq!(batch.cells(), [1520, 1500]);
+    let spike = JobState {
+        committed: Committed::ByOwnRun,
+        wrote: true,
+        running: false,
+        phase: Phase::NeverStarted,
+        validity: Validity::NoRun,
+        handed: [2900, 1500, 0, 0],
+        reported: [1500, 1500, 0, 0],
+        job: Job::spike(0, 1, 1000),
+    };
+    assert_eq!(batch.job(0), Ok(spike));
+    assert_eq!(batch.job(1).unwrap().phase, Phase::Discarded);
+}
+
+#[test]
+fn a_job_tells_how_it_stands_at_each_step() {
+    let mut batch = sealed(&[1300], &[Job::floor(0, 1400), Job::shift(0, 20), Job::floor(0, 1400)]);
+    let told = |batch: &Batch, job| {
+        let state = batch.job(job).unwrap();
+        (state.committed, state.wrote, state.running, state.phase, state.validity)
+    };
+    let nothing = (Committed::NotYet, false, false, Phase::NeverStarted, Validity::NoRun);
+    assert_eq!(told(&batch, 1), nothing);
+    batch.start_own(0).unwrap();
+    assert_eq!(told(&batch, 0), (Committed::NotYet, false, true, Phase::NeverStarted, Validity::NoRun));
+    batch.start_speculation(1).unwrap();
+    assert_eq!(told(&batch, 1), (Committed::NotYet, false, false, Phase::Out, Validity::Undecided));
+    batch.report_speculation(1, Report::of(&[1320])).unwrap();
+    assert_eq!(told(&batch, 1), (Committed::NotYet, false, false, Phase::Stored, Validity::Undecided));
+    batch.start_speculation(2).unwrap();
+    let mut found_something = batch.clone();
+    // The first floor changes nothing: the guess of the shift stands, and that of the last job still waits.
+    batch.report_own(0, Report::default()).unwrap();
+    assert_eq!(told(&batch, 1), (Committed::NotYet, false, false, Phase::Stored, Validity::Valid));
+    assert_eq!(told(&batch, 2), (Committed::NotYet, false, false, Phase::Out, Validity::Undecided));
+    batch.commit(1).unwrap();
+    assert_eq!(told(&batch, 1), (Committed::BySpeculation, false, false, Phase::Stored, Validity::Valid));
+    assert_eq!(told(&batch, 2), (Committed::NotYet, false, false, Phase::Out, Validity::Valid));
+    // The first floor changes something: both guesses have fallen, and a worker that still has one can know.
+    found_something.report_own(0, Report::written(&[1400])).unwrap();
+    assert_eq!(told(&found_something, 0), (Committed::ByOwnRun, true, false, Phase::NeverStarted, Validity::NoRun));
+    assert_eq!(told(&found_something, 1), (Committed::NotYet, false, false, Phase::Stored, Validity::Invalid));
+    assert_eq!(told(&found_something, 2), (Committed::NotYet, false, false, Phase::Out, Validity::Invalid));
+    found_something.start_own(1).unwrap();
+    assert_eq!(told(&found_something, 1), (Committed::NotYet, false, true, Phase::Discarded, Validity::NoRun));
 }
 
 #[test]
@@ -57,7 +98,7 @@ fn the_chooser_drives_a_batch_to_its_end() {
     let mut batch = sealed(&[1300, 0, 2000], &jobs);
     let mut out = std::collections::VecDeque::new();
     let mut guesses = 0;
-    while !batch.progress().unwrap().finished {
+    while !batch.finished() {
         match batch.choose() {
             Ok(choice) => {
                 let handed = batch.step(choice.step, choice.job, Report::default()).unwrap();
@@ -68,34 +109,67 @@ fn the_chooser_drives_a_batch_to_its_end() {
                     _ => {}
                 }
             }
-            Err(refusal) => {
-                assert_eq!(refusal.number(), 19);
+            Err(Refusal::NOTHING_TO_START) => {
                 let (step, job, handed) = out.pop_front().unwrap();
-                let report = result(&jobs[job], handed);
+                let report = jobs[job].result(handed).unwrap();
                 // A guess may have been thrown away meanwhile; its report is then refused (R113).
                 match batch.step(step, job, report) {
                     Ok(_) => {}
-                    Err(refusal) => assert_eq!((step, refusal.number()), (Step::ReportSpeculation, 13)),
+                    Err(refusal) => assert_eq!((step, refusal), (Step::ReportSpeculation, Refusal::WRONG_STATE)),
                 }
             }
+            Err(refusal) => panic!("{refusal}"),
         }
     }
     assert!(guesses > 0);
     // One job after the other: 1400; 1420; mean of 1420 and 2000 is 1710; no exchange; 9; 1415.
-    assert_eq!([0, 1, 2].map(|x| batch.cell(x).unwrap()), [1415, 1710, 9]);
+    assert_eq!(batch.cells(), [1415, 1710, 9]);
+    assert_eq!(batch.cells(), [0, 1, 2].map(|x| batch.cell(x).unwrap()));
+    assert_eq!(batch.choose(), Err(Refusal::NOTHING_TO_START));
+}
+
+#[test]
+fn results_of_the_kinds() {
+    // The worked examples P1 to P6 of docs/RULES.md, and values in places that a kind does not use.
+    let examples = [
+        (Job::floor(0, 1400), [1399, 7, 8, 9], [1400, 7, 8, 9], 1),
+        (Job::floor(0, 1400), [1400, 0, 0, 0], [1400, 0, 0, 0], 0),
+        (Job::spike(0, 1, 1399), [2900, 1500, 0, 0], [1500, 1500, 0, 0], 1),
+        (Job::spike(0, 1, 1400), [2900, 1500, 0, 0], [2900, 1500, 0, 0], 0),
+        (Job::spike(0, 1, i32::MAX), [i32::MAX, i32::MIN, 0, 0], [i32::MIN, i32::MIN, 0, 0], 1),
+        (Job::shift(0, 20), [2147483640, 0, 0, 0], [i32::MAX, 0, 0, 0], 0),
+        (Job::mean(0, 1, 2), [0, 3, 4, 5], [3, 3, 4, 5], 0),
+        (Job::mean(0, 1, 2), [0, -3, -4, 0], [-4, -3, -4, 0], 0),
+        (Job::pair(0, 1), [1720, 1480, 0, 0], [1480, 1720, 0, 0], 1),
+        (Job::pair(0, 1), [7, 7, 0, 0], [7, 7, 0, 0], 0),
+        (Job::set(0, 9), [1500, 0, 0, 0], [9, 0, 0, 0], 0),
+    ];
+    for (job, handed, values, wrote) in examples {
+        assert_eq!(job.result(handed), Ok(Report { values, wrote }), "{job:?}");
+    }
+    assert_eq!(Job::outside(5, &[(0, Mode::Write)]).result([1, 2, 3, 4]), Err(Refusal::WRONG_KIND));
+    assert_eq!(Job::new(7, 0, &[]).result([1, 2, 3, 4]), Err(Refusal::WRONG_KIND));
+}
+
+#[test]
+fn kinds_have_names() {
+    let jobs = [Job::set(0, 1), Job::shift(0, 1), Job::spike(0, 1, 1), Job::floor(0, 1), Job::mean(0, 1, 2), Job::pair(0, 1)];
+    let kinds = [Kind::Set, Kind::Shift, Kind::Spike, Kind::Floor, Kind::Mean, Kind::Pair];
+    assert_eq!(jobs.map(|job| job.named_kind()), kinds.map(Some));
+    let outside = Job::outside(-3, &[(0, Mode::Read)]);
+    assert_eq!((outside.named_kind(), outside.parameter), (Some(Kind::Outside), -3));
+    assert_eq!(Job::new(7, 0, &[]).named_kind(), None);
+    // The engine keeps an outside job's parameter for its worker.
+    assert_eq!(sealed(&[0], &[outside]).job(0).unwrap().job, outside);
 }
 
 #[test]
 fn a_step_by_value_is_the_step_lent() {
-    let jobs = [Job::floor(0, 1400), Job::shift(0, 20), Job::outside(&[(0, Mode::Read), (1, Mode::MaybeWrite)])];
+    let jobs = [Job::floor(0, 1400), Job::shift(0, 20), Job::outside(0, &[(0, Mode::Read), (1, Mode::MaybeWrite)])];
     let mut lent = sealed(&[1300, 5], &jobs);
-    let steps = [Step::StartOwn, Step::StartSpeculation, Step::ReportOwn, Step::ReportSpeculation, Step::Commit];
-    let mut random = 1u64;
+    let mut random = Random(1);
     for _ in 0..2000 {
-        random = random.wrapping_mul(6364136223846793005).wrapping_add(1442695040888963407);
-        let step = steps[(random >> 40) as usize % 5];
-        let job = (random >> 33) as usize % 4;
-        let report = Report { values: [(random >> 20) as i32; 4], wrote: (random >> 10) as u8 % 3 };
+        let (step, job, report) = (random.step(), usize::from(random.below(4)), random.report());
         let before = lent.clone();
         let by_value = lent.stepped(step, job, report);
         match lent.step(step, job, report) {
@@ -105,7 +179,7 @@ fn a_step_by_value_is_the_step_lent() {
                 assert_eq!(lent, before, "a refusal changes nothing");
             }
         }
-        if lent.progress().unwrap().finished {
+        if lent.finished() {
             lent = sealed(&[1300, 5], &jobs);
         }
     }
@@ -113,51 +187,52 @@ fn a_step_by_value_is_the_step_lent() {
 
 #[test]
 fn refusals_of_the_planner() {
-    assert_eq!(number(Batch::open(&[])), 1);
-    assert_eq!(number(Batch::open(&[0; 65])), 1);
+    assert_eq!(Batch::open(&[]), Err(Refusal::CELL_COUNT));
+    assert_eq!(Batch::open(&[0; 65]), Err(Refusal::CELL_COUNT));
     let mut batch = Batch::open(&[0; 64]).unwrap();
-    assert_eq!(number(batch.insert(Job::outside(&[]))), 4);
+    assert_eq!(batch.insert(Job::outside(0, &[])), Err(Refusal::ACCESS_COUNT));
     let five = [0, 1, 2, 3, 4].map(|cell| (cell, Mode::Read));
-    assert_eq!(number(batch.insert(Job::outside(&five))), 4);
-    assert_eq!(number(batch.insert(Job::set(64, 1))), 5);
-    let mut modeless = Job::outside(&[(0, Mode::Read)]);
+    assert_eq!(batch.insert(Job::outside(0, &five)), Err(Refusal::ACCESS_COUNT));
+    assert_eq!(batch.insert(Job::set(64, 1)), Err(Refusal::NO_SUCH_CELL));
+    let mut modeless = Job::outside(0, &[(0, Mode::Read)]);
     modeless.accesses[0].mode = 3;
-    assert_eq!(number(batch.insert(modeless)), 6);
-    assert_eq!(number(batch.insert(Job::pair(3, 3))), 7);
-    assert_eq!(number(batch.insert(Job::new(7, 0, &[(0, Mode::Read)]))), 8);
+    assert_eq!(batch.insert(modeless), Err(Refusal::NO_SUCH_MODE));
+    assert_eq!(batch.insert(Job::pair(3, 3)), Err(Refusal::CELL_TWICE));
+    assert_eq!(batch.insert(Job::new(7, 0, &[(0, Mode::Read)])), Err(Refusal::WRONG_KIND));
     for _ in 0..128 {
         batch.insert(Job::set(63, 1)).unwrap();
     }
-    assert_eq!(number(batch.insert(Job::set(63, 1))), 3);
+    assert_eq!(batch.insert(Job::set(63, 1)), Err(Refusal::TOO_MANY_JOBS));
+    assert!(!batch.finished());
     batch.seal(false).unwrap();
-    assert_eq!(number(batch.insert(Job::set(63, 1))), 2);
-    assert_eq!(number(batch.seal(true)), 2);
-    assert_eq!(number(batch.start_speculation(1)), 12);
+    assert_eq!(batch.insert(Job::set(63, 1)), Err(Refusal::SEALED));
+    assert_eq!(batch.seal(true), Err(Refusal::SEALED));
+    assert_eq!(batch.start_speculation(1), Err(Refusal::GUESSING_OFF));
 }
 
 #[test]
 fn refusals_of_the_host_and_the_reader() {
     let mut batch = Batch::open(&[1300, 5]).unwrap();
-    assert_eq!(number(batch.start_own(0)), 10);
-    assert_eq!(number(batch.choose()), 10);
+    assert_eq!(batch.start_own(0), Err(Refusal::NOT_SEALED));
+    assert_eq!(batch.choose(), Err(Refusal::NOT_SEALED));
     batch.insert(Job::floor(0, 1400)).unwrap();
     batch.insert(Job::shift(0, 20)).unwrap();
     batch.seal(true).unwrap();
-    assert_eq!(number(batch.start_own(2)), 11);
-    assert_eq!(number(batch.start_own(usize::MAX)), 11);
-    assert_eq!(number(batch.report_own(0, Report::default())), 13);
-    assert_eq!(number(batch.start_speculation(0)), 14);
-    assert_eq!(number(batch.start_own(1)), 15);
+    assert_eq!(batch.start_own(2), Err(Refusal::NO_SUCH_JOB));
+    assert_eq!(batch.start_own(usize::MAX), Err(Refusal::NO_SUCH_JOB));
+    assert_eq!(batch.report_own(0, Report::default()), Err(Refusal::WRONG_STATE));
+    assert_eq!(batch.start_speculation(0), Err(Refusal::JOB_READY));
+    assert_eq!(batch.start_own(1), Err(Refusal::MUST_WAIT));
     batch.start_own(0).unwrap();
     batch.start_speculation(1).unwrap();
-    assert_eq!(number(batch.choose()), 19);
-    assert_eq!(number(batch.report_own(0, Report { values: [0; 4], wrote: 2 })), 16);
+    assert_eq!(batch.choose(), Err(Refusal::NOTHING_TO_START));
+    assert_eq!(batch.report_own(0, Report { values: [0; 4], wrote: 2 }), Err(Refusal::WRONG_MARK));
     batch.report_own(0, Report::default()).unwrap();
-    assert_eq!(number(batch.start_own(1)), 17);
-    assert_eq!(number(batch.cell(2)), 5);
-    assert_eq!(number(batch.job(2)), 11);
-    assert_eq!(number(batch.copy_out(&mut [0; 3], 2)), 20);
-    assert_eq!(number(batch.copy_out(&mut [0; 3], usize::MAX)), 20);
+    assert_eq!(batch.start_own(1), Err(Refusal::GUESS_STANDS));
+    assert_eq!(batch.cell(2), Err(Refusal::NO_SUCH_CELL));
+    assert_eq!(batch.job(2), Err(Refusal::NO_SUCH_JOB));
+    assert_eq!(batch.copy_out(&mut [0; 3], 2), Err(Refusal::BUFFER_TOO_SMALL));
+    assert_eq!(batch.copy_out(&mut [0; 3], usize::MAX), Err(Refusal::BUFFER_TOO_SMALL));
 }
 
 #[test]
@@ -169,6 +244,87 @@ fn a_record_is_kept_and_taken_up_again() {
     let mut again = Batch::from_record(Record::from_bytes(&bytes)).unwrap();
     assert_eq!(again, batch);
     again.report_own(0, Report::default()).unwrap();
-    assert_eq!(number(Batch::from_record(Record::from_bytes(&[0; Record::SIZE]))), 32);
-    assert_eq!(number(Batch::from_record(Record::from_bytes(&[255; Record::SIZE]))), 32);
+    assert_eq!(Batch::from_record(Record::from_bytes(&[0; Record::SIZE])), Err(Refusal::OUT_OF_FORM));
+    assert_eq!(Batch::from_record(Record::from_bytes(&[255; Record::SIZE])), Err(Refusal::OUT_OF_FORM));
+}
+
+/// The batch with its jobs in states at random, as no list of calls may lead to them, but each number in form (R91).
+fn in_any_state(batch: &Batch, random: &mut Random) -> Batch {
+    let mut record = *batch.record();
+    for job in 0..record.job_count {
+        let (place, run) = (usize::from(job), &mut record.runs[usize::from(job)]);
+        record.committed[place] = [0, 0, 0, 1, 2][usize::from(random.below(5))];
+        record.running[place] = random.below(2);
+        record.phase[place] = random.below(4);
+        run.wrote = random.below(2);
+        run.sources = [(); 4].map(|()| random.below(job + 1));
+        run.bypassed.low = u64::from(random.below(255)) & ((1 << job) - 1);
+    }
+    Batch::from_record(record).unwrap()
+}
+
+/// What lets `finished` and `cells` have no error: a record in form is in form after every call.
+#[test]
+fn calls_keep_a_record_in_form() {
+    let jobs = [Job::floor(0, 1400), Job::shift(0, 20), Job::spike(1, 0, 9), Job::pair(0, 1), Job::mean(2, 0, 1)];
+    let start = sealed(&[1300, 5, 7], &jobs);
+    let mut random = Random(1);
+    let mut accepted = [0; 5];
+    for _ in 0..3000 {
+        let mut batch = in_any_state(&start, &mut random);
+        for _ in 0..8 {
+            let (step, job) = (random.step(), usize::from(random.below(5)));
+            accepted[step as usize] += batch.step(step, job, random.report()).is_ok() as usize;
+            assert!(Batch::from_record(*batch.record()).is_ok(), "after {step:?} of job {job}");
+        }
+        assert_eq!(batch.cells().len(), 3);
+    }
+    assert!(accepted.iter().all(|&times| times > 100), "{accepted:?}");
+}
+
+#[test]
+fn a_batch_is_shown_in_a_few_words() {
+    let mut batch = sealed(&[1300, -5], &[Job::floor(0, 1400), Job::shift(0, 20), Job::spike(1, 0, 9)]);
+    batch.start_own(0).unwrap();
+    batch.start_speculation(1).unwrap();
+    let early = "Batch { cells: [1300, -5], sealed: true, speculating: true, jobs: {\
+        0: Floor 1400 MaybeWrite(0): NotYet, running, \
+        1: Shift 20 Write(0): NotYet, speculation Out Undecided, \
+        2: Spike 9 MaybeWrite(1) Read(0): NotYet} }";
+    assert_eq!(format!("{batch:?}"), early);
+    batch.report_own(0, Report::written(&[1400])).unwrap();
+    batch.start_own(1).unwrap();
+    let late = "Batch {
+    cells: [
+        1400,
+        -5,
+    ],
+    sealed: true,
+    speculating: true,
+    jobs: {
+        0: Floor 1400 MaybeWrite(0): ByOwnRun, wrote,
+        1: Shift 20 Write(0): NotYet, running, speculation Discarded NoRun,
+        2: Spike 9 MaybeWrite(1) Read(0): NotYet,
+    },
+}";
+    assert_eq!(format!("{batch:#?}"), late);
+    assert_eq!(format!("{:?}", batch.choose()), "Err(NOTHING_TO_START (19))");
+}
+
+#[test]
+fn plans_are_answered() {
+    // The stored plans with their answers, each fault among them.
+    let folder = concat!(env!("CARGO_MANIFEST_DIR"), "/../../tests/plans");
+    let mut tried = 0;
+    for entry in std::fs::read_dir(folder).unwrap() {
+        let plan = entry.unwrap().path();
+        if plan.extension().is_some_and(|extension| extension == "plan") {
+            let expected = std::fs::read(plan.with_extension("answer")).unwrap();
+            assert!(answer(&std::fs::read(&plan).unwrap()) == expected, "{}", plan.display());
+            tried += 1;
+        }
+    }
+    assert!(tried > 20, "only {tried} stored plans");
+    assert_eq!(answer(&vec![b' '; 65_537]), b"fault line\n22 0\n");
+    assert_eq!(Refusal::from_number(22), Some(Refusal::PLAN_TOO_LONG));
 }

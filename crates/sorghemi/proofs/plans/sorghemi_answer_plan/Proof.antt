@@ -1,5 +1,7 @@
 -- `sorghemi_answer_plan` meets its contract: the buffer is refused, or takes the whole answer.
 use native.Mathlib.Omega.{arith}
+use denote.Ref.{now}
+use lib.ListN.{length}
 use borrow.Author.Tests.{lt-ltb, le-ltb}
 use borrow.Author.Needs.{needs}
 use Rattle.sorghemi.specs.Plan.{planAnswered, bufferAnswered}
@@ -10,7 +12,9 @@ use Rattle.sorghemi.proofs.plans.sorghemi_answer_plan.Tie as tie
 -- refused
 returns : tie.Need-returns
 unfolding planAnswered bufferAnswered
-returns c = (rw (lt-ltb _ _ (c .if1 .taken)), rw (lt-ltb _ _ (c .if1 .taken)))
+returns c =
+    let short = lt-ltb (length (now (c .before .before .before .args .buffer))) 334861 (omega (arith, c .if1 .taken)) in
+    (rw short, rw short)
 
 answer-requires : tie.Need-answer-requires
 answer-requires c κs = search needs
