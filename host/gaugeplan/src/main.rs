@@ -1,0 +1,93 @@
+//! `gaugeplan`: plans for `gaugebatch`, run, explained in words, given their steps, and drawn (docs/GAUGEPLAN.md).
+//!
+//! All that is said of a plan comes from the proved library: what it answers to the plan as a whole, and how a batch stands
+//! that is driven through the plan's steps.
+#![cfg_attr(not(test), no_main)]
+
+mod command;
+mod dependence;
+mod explain;
+mod fault;
+mod fields;
+mod plan;
+mod streams;
+mod trace;
+mod why;
+mod words;
+
+use command::{Command, Request};
+use streams::Input;
+
+/// A plan at fault.
+const FAULTY: u8 = 1;
+/// The arguments are wrong, or reading or writing failed.
+const FAILED: u8 = 2;
+/// The program contradicts the library, which is a mistake in the program.
+const CONTRADICTION: u8 = 3;
+
+/// C's `main`, since Rust's own opens descriptors that are closed on /dev/null before the program could see them: a plan that
+/// was never read would be an empty one, and an answer could vanish.
+#[cfg(not(test))]
+#[no_mangle]
+pub extern "C" fn main(_count: std::ffi::c_int, _words: *const *const std::ffi::c_char) -> std::ffi::c_int {
+    streams::ignore_broken_pipes();
+    let words: Vec<String> = std::env::args_os().skip(1).map(|word| word.to_string_lossy().into_owned()).collect();
+    let status = match command::read(&words) {
+        Err(message) => failed(&message),
+        Ok(Request::Help(text)) => written(text.as_bytes(), 0),
+        Ok(Request::Do(command)) => done(command),
+    };
+    status.into()
+}
+
+fn failed(message: &str) -> u8 {
+    streams::write_message(format!("gaugeplan: {message}\n").as_bytes());
+    FAILED
+}
+
+/// The status, once all of the output is written.
+fn written(output: &[u8], status: u8) -> u8 {
+    match streams::write_output(output) {
+        Ok(()) => status,
+        Err(reason) => failed(&format!("writing standard output failed: {reason}")),
+    }
+}
+
+fn done(command: Command) -> u8 {
+    let input = match streams::read_input() {
+        Ok(input) => input,
+        Err(reason) => return failed(&format!("reading standard input failed: {reason}")),
+    };
+    let Answer { output, message, status } = answer(command, &input);
+    streams::write_message(message.as_bytes());
+    written(&output, status)
+}
+
+/// What a command writes, and the status that it ends with.
+struct Answer {
+    output: Vec<u8>,
+    message: String,
+    status: u8,
+}
+
+fn answer(command: Command, input: &Input) -> Answer {
+    let quiet = |output, status| Answer { output, message: String::new(), status };
+    let reading = match plan::read(&input.kept) {
+        Ok(reading) => reading,
+        Err(contradiction) => return contradicted(contradiction),
+    };
+    match (command, reading) {
+        (Command::Run, plan::Reading::Sound(sound)) => quiet(sound.answer, 0),
+        (Command::Run, plan::Reading::Faulty(faulty)) => quiet(faulty.answer, FAULTY),
+        (Command::Explain, plan::Reading::Faulty(faulty)) => quiet(fault::explained(input, faulty.fault).into_bytes(), FAULTY),
+        (Command::Explain, plan::Reading::Sound(sound)) => match explain::explained(&sound) {
+            Ok(text) => quiet(text.into_bytes(), 0),
+            Err(contradiction) => contradicted(contradiction),
+        },
+    }
+}
+
+fn contradicted(contradiction: plan::Contradiction) -> Answer {
+    let message = format!("gaugeplan: a mistake in gaugeplan: {}\n", contradiction.0);
+    Answer { output: Vec::new(), message, status: CONTRADICTION }
+}
