@@ -4,6 +4,10 @@
 pub enum Command {
     Run,
     Explain,
+    /// With so many workers.
+    Steps(usize),
+    Graph,
+    Picture,
 }
 
 #[derive(Debug, PartialEq, Eq)]
@@ -20,7 +24,10 @@ struct Entry {
     long: &'static str,
 }
 
-const ENTRIES: [Entry; 2] = [
+/// A plan has no more jobs, so more workers would have nothing to do.
+const MOST_WORKERS: usize = 128;
+
+const ENTRIES: [Entry; 5] = [
     Entry {
         name: "run",
         usage: "gaugeplan run < PLAN",
@@ -33,6 +40,27 @@ const ENTRIES: [Entry; 2] = [
         short: "the plan's fault, or each of its steps, in words",
         long: "Says in words what is wrong with the plan and how to mend it; or, of a sound plan, what each step did, which guesses\n\
                fell and why, and how jobs and cells stand at the end.",
+    },
+    Entry {
+        name: "steps",
+        usage: "gaugeplan steps WORKERS < PLAN",
+        short: "the plan with steps for so many workers",
+        long: "Writes the plan's cells, jobs and guess switch with steps for WORKERS workers, 1 to 128. Steps that the plan has are\n\
+               left out, and its line `step job` may be missing. Every run takes the same time; a free worker takes what the\n\
+               engine's chooser names, and drops a guess that has fallen. No step is refused, and all jobs are settled at the end.",
+    },
+    Entry {
+        name: "graph",
+        usage: "gaugeplan graph < PLAN",
+        short: "which jobs wait for which, as DOT for Graphviz",
+        long: "Writes a graph of the jobs for Graphviz, for instance `gaugeplan graph < PLAN | dot -Tsvg > graph.svg`. Arrows that a\n\
+               chain of others implies are left out.",
+    },
+    Entry {
+        name: "picture",
+        usage: "gaugeplan picture < PLAN",
+        short: "the run of the plan as a picture, in SVG",
+        long: "Writes a picture of the run: a row for each job, a column for each step, with own runs, guesses kept and guesses lost.",
     },
 ];
 
@@ -57,6 +85,12 @@ fn is_help(word: &str) -> bool {
     word == "--help" || word == "-h"
 }
 
+/// A number of workers is written as numbers are in plans: digits, and no leading zero.
+fn workers(word: &str) -> Result<usize, String> {
+    let number = (1..=MOST_WORKERS).find(|number| number.to_string() == word);
+    number.ok_or_else(|| format!("the number of workers is 1 to {MOST_WORKERS}, and not `{}`", word.escape_default()))
+}
+
 /// What is asked for, or what is wrong with the arguments.
 pub fn read(words: &[String]) -> Result<Request, String> {
     let words: Vec<&str> = words.iter().map(String::as_str).collect();
@@ -73,8 +107,12 @@ pub fn read(words: &[String]) -> Result<Request, String> {
     let command = match (name, arguments) {
         ("run", []) => Ok(Command::Run),
         ("explain", []) => Ok(Command::Explain),
-        (_, [word, ..]) => Err(format!("`{}` is no argument of {name}", word.escape_default())),
-        (_, []) => Err(format!("{name} needs an argument")),
+        ("graph", []) => Ok(Command::Graph),
+        ("picture", []) => Ok(Command::Picture),
+        ("steps", [word]) => workers(word).map(Command::Steps),
+        ("steps", []) => Err("the number of workers is missing".to_owned()),
+        (_, [.., word]) => Err(format!("`{}` is no argument of {name}", word.escape_default())),
+        (_, []) => Err(format!("{name} is not understood")),
     };
     command.map(Request::Do).map_err(|message| format!("{message}\nusage: {}", entry.usage))
 }

@@ -24,7 +24,9 @@ pub fn explained(input: &Input, fault: Fault) -> String {
     let mut text = format!("Fault {} on line {}: {general}.\n", fault.number, fault.line);
     for one in &found {
         text += &format!("\nLine {}, column {}: {}.\n", fault.line, one.column, one.what);
-        text += &shown::with_caret(line.text, one.column);
+        if !line.is_end() {
+            text += &shown::with_caret(line.text, one.column);
+        }
         text += &format!("Repair: {}.\n", one.repair);
     }
     if found.is_empty() {

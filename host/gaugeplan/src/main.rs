@@ -9,13 +9,17 @@ mod dependence;
 mod explain;
 mod fault;
 mod fields;
+mod graph;
+mod picture;
 mod plan;
+mod schedule;
 mod streams;
 mod trace;
 mod why;
 mod words;
 
 use command::{Command, Request};
+use plan::{Contradiction, Faulty, Reading};
 use streams::Input;
 
 /// A plan at fault.
@@ -71,23 +75,43 @@ struct Answer {
 }
 
 fn answer(command: Command, input: &Input) -> Answer {
-    let quiet = |output, status| Answer { output, message: String::new(), status };
-    let reading = match plan::read(&input.kept) {
-        Ok(reading) => reading,
-        Err(contradiction) => return contradicted(contradiction),
+    let answered = match command {
+        Command::Steps(workers) => steps(input, workers),
+        _ => of_whole_plan(command, input),
     };
-    match (command, reading) {
-        (Command::Run, plan::Reading::Sound(sound)) => quiet(sound.answer, 0),
-        (Command::Run, plan::Reading::Faulty(faulty)) => quiet(faulty.answer, FAULTY),
-        (Command::Explain, plan::Reading::Faulty(faulty)) => quiet(fault::explained(input, faulty.fault).into_bytes(), FAULTY),
-        (Command::Explain, plan::Reading::Sound(sound)) => match explain::explained(&sound) {
-            Ok(text) => quiet(text.into_bytes(), 0),
-            Err(contradiction) => contradicted(contradiction),
-        },
-    }
+    answered.unwrap_or_else(contradicted)
 }
 
-fn contradicted(contradiction: plan::Contradiction) -> Answer {
+fn quiet(output: impl Into<Vec<u8>>, status: u8) -> Answer {
+    Answer { output: output.into(), message: String::new(), status }
+}
+
+fn of_whole_plan(command: Command, input: &Input) -> Result<Answer, Contradiction> {
+    Ok(match (command, plan::read(&input.kept)?) {
+        (Command::Run, Reading::Sound(sound)) => quiet(sound.answer, 0),
+        (Command::Run, Reading::Faulty(faulty)) => quiet(faulty.answer, FAULTY),
+        (Command::Explain, Reading::Faulty(faulty)) => quiet(fault::explained(input, faulty.fault), FAULTY),
+        (_, Reading::Faulty(faulty)) => refused(input, &faulty),
+        (Command::Graph, Reading::Sound(sound)) => quiet(graph::drawn(&sound)?, 0),
+        (Command::Picture, Reading::Sound(sound)) => quiet(picture::drawn(&sound)?, 0),
+        (_, Reading::Sound(sound)) => quiet(explain::explained(&sound)?, 0),
+    })
+}
+
+fn steps(input: &Input, workers: usize) -> Result<Answer, Contradiction> {
+    Ok(match plan::read_without_steps(&input.kept)? {
+        (Reading::Faulty(faulty), _) => refused(input, &faulty),
+        (Reading::Sound(sound), text) => quiet(schedule::planned(&text, &sound.plan, workers)?, 0),
+    })
+}
+
+/// Nothing can be made of a plan at fault; what is wrong goes to standard error, the library's answer first.
+fn refused(input: &Input, faulty: &Faulty) -> Answer {
+    let answer = String::from_utf8_lossy(&faulty.answer);
+    Answer { output: Vec::new(), message: format!("{answer}\n{}", fault::explained(input, faulty.fault)), status: FAULTY }
+}
+
+fn contradicted(contradiction: Contradiction) -> Answer {
     let message = format!("gaugeplan: a mistake in gaugeplan: {}\n", contradiction.0);
     Answer { output: Vec::new(), message, status: CONTRADICTION }
 }

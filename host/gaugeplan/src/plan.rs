@@ -61,6 +61,20 @@ pub struct StepLine {
     pub job: usize,
 }
 
+/// The same for a plan that may lack its last part: where only the names line of the steps is missing, it is put in. A line
+/// `step job` is nothing but that names line, so what is sound with it lacked nothing else.
+pub fn read_without_steps(plan: &[u8]) -> Result<(Reading, Vec<u8>), Contradiction> {
+    let reading = read(plan)?;
+    if let Reading::Faulty(_) = reading {
+        let longer = [plan, STEP_NAMES, b"\n"].concat();
+        let again = read(&longer)?;
+        if let Reading::Sound(_) = again {
+            return Ok((again, longer));
+        }
+    }
+    Ok((reading, plan.to_owned()))
+}
+
 /// Asks the library about the plan. Whether it is sound, and else where the fault is, is the library's answer alone.
 pub fn read(plan: &[u8]) -> Result<Reading, Contradiction> {
     // A library of another layout shows here, where it is refused, and not as a panic of `answer`.

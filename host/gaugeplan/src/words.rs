@@ -1,7 +1,8 @@
 //! Jobs, steps and lists in the words of the rules.
 
+use crate::dependence::Link;
 use crate::plan;
-use sorghemi::{Job, Kind, Step};
+use sorghemi::{Committed, Job, JobState, Kind, Step};
 
 /// The kind's name, as docs/PLANS.md has it.
 pub fn kind(job: &Job) -> &'static str {
@@ -38,6 +39,24 @@ pub fn step(step: Step) -> &'static str {
         Step::ReportOwn => "report own",
         Step::ReportSpeculation => "report guess",
         Step::Commit => "settle",
+    }
+}
+
+/// How a job is settled, and its mark.
+pub fn settled(state: &JobState) -> String {
+    match state.committed {
+        Committed::NotYet => "not settled".to_owned(),
+        Committed::ByOwnRun => format!("settled by its own run, mark {}", u8::from(state.wrote)),
+        Committed::BySpeculation => format!("settled by its guess, mark {}", u8::from(state.wrote)),
+    }
+}
+
+/// What an arrow of this sort says of the job that it comes from.
+pub fn link(link: Link) -> &'static str {
+    match link {
+        Link::Writes => "the earlier job writes a cell of the later one",
+        Link::MaybeWrites => "the earlier job only maybe-writes it, so a guess can look past that job",
+        Link::Reads => "the earlier job only reads a cell that the later one writes",
     }
 }
 

@@ -84,7 +84,8 @@ fn cells_due(fields: &[Field]) -> Option<(String, usize)> {
 pub fn wrong_kind(line: &[u8]) -> Vec<Finding> {
     let fields = fields::split(line);
     let Some((name, due)) = cells_due(&fields) else {
-        return vec![finding(1, "there is no such kind", format!("write {KINDS}"))];
+        let kind = fields.first().map(|field| String::from_utf8_lossy(field.bytes)).unwrap_or_default();
+        return vec![finding(1, format!("there is no kind {kind}"), format!("write {KINDS}"))];
     };
     let given = cells(line).len();
     let column = fields.get(2 + due.min(given)).map_or(1, |field| field.column);
