@@ -23,6 +23,12 @@ pub struct Event {
     pub outcome: Outcome,
 }
 
+impl Event {
+    pub fn is_refused(&self) -> bool {
+        matches!(self.outcome, Outcome::Refused(..))
+    }
+}
+
 pub enum Outcome {
     /// An own run or a guess was started.
     Started(Started),
@@ -195,7 +201,7 @@ impl Trace {
     }
 
     pub fn refused(&self) -> usize {
-        self.events.iter().filter(|event| matches!(event.outcome, Outcome::Refused(..))).count()
+        self.events.iter().filter(|event| event.is_refused()).count()
     }
 
     /// How many guesses fell.
