@@ -6,6 +6,8 @@ mod jobs;
 mod names;
 mod place;
 mod shown;
+#[cfg(test)]
+mod tests;
 
 use crate::fields::{self, finding, plain, signed, Finding};
 use crate::plan::Fault;

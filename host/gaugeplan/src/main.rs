@@ -3,6 +3,7 @@
 //! All that is said of a plan comes from the proved library: what it answers to the plan as a whole, and how a batch stands
 //! that is driven through the plan's steps.
 #![cfg_attr(not(test), no_main)]
+#![cfg_attr(test, allow(dead_code))] // Tests have a main of their own.
 
 mod command;
 mod dependence;

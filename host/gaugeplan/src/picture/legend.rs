@@ -38,8 +38,8 @@ pub fn of(rows: &Rows, arrows: &[Arrow], is_narrow: bool) -> Vec<Item> {
         (Sign::Mark(true), "settled with mark 1: it wrote what it maybe-writes"),
         (Sign::Refusal, refusal),
         (Sign::Link(Link::Writes), "waits for a job that writes one of its cells"),
-        (Sign::Link(Link::MaybeWrites), "waits for one that only maybe-writes"),
-        (Sign::Link(Link::Reads), "waits for one that reads what it writes"),
+        (Sign::Link(Link::MaybeWrites), "waits for a job that only maybe-writes one"),
+        (Sign::Link(Link::Reads), "waits for a job that only reads what it writes"),
     ];
     all.into_iter().filter(|(sign, _)| occurs(*sign, rows, arrows)).map(|(sign, words)| Item { sign, words }).collect()
 }
