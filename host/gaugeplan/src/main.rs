@@ -35,14 +35,18 @@ const CONTRADICTION: u8 = 3;
 #[cfg(not(test))]
 #[no_mangle]
 pub extern "C" fn main(_count: std::ffi::c_int, _words: *const *const std::ffi::c_char) -> std::ffi::c_int {
-    streams::ignore_broken_pipes();
     let words: Vec<String> = std::env::args_os().skip(1).map(|word| word.to_string_lossy().into_owned()).collect();
-    let status = match command::read(&words) {
+    program(&words).into()
+}
+
+/// The program's status.
+fn program(words: &[String]) -> u8 {
+    streams::ignore_broken_pipes();
+    match command::read(words) {
         Err(message) => failed(&message),
         Ok(Request::Help(text)) => written(text.as_bytes(), 0),
         Ok(Request::Do(command)) => done(command),
-    };
-    status.into()
+    }
 }
 
 fn failed(message: &str) -> u8 {
