@@ -58,8 +58,8 @@ fn grid(rows: &Rows, sheet: &Sheet) -> String {
         body += &svg::rect("band", sheet.left, sheet.row_top(row), sheet.inner_width(), sheet::ROW);
     }
     let mut lines = String::new();
-    for (column, x) in sheet.columns.iter().enumerate() {
-        if sheet.is_numbered(column) {
+    for (column, x) in sheet.columns.middles.iter().enumerate() {
+        if sheet.columns.is_numbered(column) {
             let _ = write!(lines, "M{} {}V{}", n(*x), n(top), n(bottom));
             body += &text(*x, top - 6.0, "number", &(column + 1).to_string());
             if rows.jobs.len() > sheet::ROWS_WITHOUT_FOOT {
@@ -69,10 +69,10 @@ fn grid(rows: &Rows, sheet: &Sheet) -> String {
     }
     body += &svg::path("grid", &lines);
     body += &text(sheet.left + 38.0, top - 6.0, "column", "job");
-    body += &text(sheet.chart_x - 4.0, top - 6.0, "column end", "step");
+    body += &text(sheet.columns.start - 4.0, top - 6.0, "column end", "step");
     body += &text(sheet.right_x, top - 6.0, "column", "settled by");
     body += &text(sheet.guess_x, top - 6.0, "column", "its guess");
-    body + &svg::rect("frame", sheet.chart_x, top, sheet.chart_width, bottom - top)
+    body + &svg::rect("frame", sheet.columns.start, top, sheet.columns.end - sheet.columns.start, bottom - top)
 }
 
 /// From the earlier job's row into a lane, down it, and into the later job's row.
@@ -84,7 +84,7 @@ fn dependences(arrows: &[Arrow], lanes: &lanes::Lanes, sheet: &Sheet) -> String 
         for (arrow, lane) in arrows.iter().zip(&lanes.of_arrow).filter(|(arrow, _)| arrow.link == link) {
             let x = sheet.lane_x(*lane);
             let (from, to) = (sheet.row_middle(arrow.earlier) + 5.0, sheet.row_middle(arrow.later) - 5.0);
-            let edge = sheet.chart_x - 2.0;
+            let edge = sheet.columns.start - 2.0;
             let _ = write!(lines, "M{} {}H{}Q{x} {from} {x} {}", n(edge), n(from), n(x + 4.0), n(from + 4.0));
             let _ = write!(lines, "V{}Q{x} {to} {} {}H{}", n(to - 4.0), n(x + 4.0), n(to), n(edge - 5.0));
             let _ = write!(ends, "M{} {}l-6 -3v6zM{} {}h-3v-3h3z", n(edge), n(to), n(edge + 1.0), n(from + 1.5));
@@ -113,7 +113,7 @@ fn job(row: &Row, sheet: &Sheet) -> String {
     let mut body = format!("<g><title>{}</title>\n", svg::escaped(&row.told));
     body += &text(sheet.left + 28.0, y + 4.0, "jobnumber", &row.number.to_string());
     body += &text(sheet.left + 38.0, y + 4.0, "", &row.name);
-    if sheet.is_far() {
+    if sheet.columns.are_far() {
         body += &text(sheet.right_x - 10.0, y + 4.0, "jobnumber", &row.number.to_string());
     }
     body += &text(sheet.right_x, y + 4.0, "", &row.end);
@@ -151,7 +151,7 @@ fn guess_bar(row: &Row, guess: &Guess, y: f64, sheet: &Sheet) -> String {
 fn bar_label(row: &Row, stretches: &[(f64, f64)], y: f64, class: &str, label: &str, sheet: &Sheet) -> String {
     let free = stretches.iter().flat_map(|&(from, to)| sheet.between_marks(row, from, to));
     let widest = free.fold((0.0, 0.0), |best: (f64, f64), one| if one.1 - one.0 > best.1 - best.0 { one } else { best });
-    if widest.1 - widest.0 < svg::width(label, svg::SMALL) + 2.0 * sheet.mark_radius() + 4.0 {
+    if widest.1 - widest.0 < svg::width(label, svg::SMALL) + 2.0 * sheet.columns.mark_radius() + 4.0 {
         return String::new();
     }
     text((widest.0 + widest.1) / 2.0, y + 3.5, class, label)
@@ -162,10 +162,10 @@ fn marks(row: &Row, sheet: &Sheet) -> String {
     let y = sheet.row_middle(row.number);
     let mut body = String::new();
     if let Some((step, mark)) = row.settled {
-        body += &svg::mark(sheet.x(step), y, sheet.mark_radius(), mark);
+        body += &svg::mark(sheet.x(step), y, sheet.columns.mark_radius(), mark);
     }
     if let Some((step, _)) = row.guess.as_ref().and_then(|guess| guess.fell) {
-        body += &svg::cross(sheet.x(step), y, sheet.mark_radius());
+        body += &svg::cross(sheet.x(step), y, sheet.columns.mark_radius());
     }
     body + &refusals(&row.refused, y, sheet)
 }
@@ -176,7 +176,7 @@ fn refusals(refused: &[(usize, u8)], y: f64, sheet: &Sheet) -> String {
     let mut ticks = String::new();
     for &(step, number) in refused {
         let x = sheet.x(step);
-        if sheet.has_room(step) {
+        if sheet.columns.has_room(step) {
             body += &svg::refusal(x, y, number);
         } else {
             let _ = write!(ticks, "M{} {}v12", n(x), n(y - 6.0));
@@ -197,13 +197,13 @@ fn strays(rows: &Rows, sheet: &Sheet) -> String {
 /// Opening and final height of each cell, in columns.
 fn cells(plan: &Plan, trace: &Trace, sheet: &Sheet) -> String {
     let heading = "Cells, in millimetres: height at the opening, and at the end";
-    let mut body = text(sheet.left, sheet.cells_y, "heading", heading);
+    let mut body = text(sheet.left, sheet.cells.y, "heading", heading);
     for (cell, (opening, end)) in plan.heights.iter().zip(&trace.heights).enumerate() {
-        let (x, y) = sheet.cell_place(cell);
+        let (x, y) = sheet.cells.place(cell);
         body += &text(x, y, "", &format!("cell {cell}"));
-        body += &text(x + sheet.cell_opening(), y, "end", &opening.to_string());
-        body += &svg::path("small-arrow", &format!("M{} {}h10m-3 -3l3 3l-3 3", n(x + sheet.cell_opening() + 5.0), n(y - 4.0)));
-        body += &text(x + sheet.cell_end(), y, if opening == end { "end" } else { "end changed" }, &end.to_string());
+        body += &text(x + sheet.cells.opening(), y, "end", &opening.to_string());
+        body += &svg::path("small-arrow", &format!("M{} {}h10m-3 -3l3 3l-3 3", n(x + sheet.cells.opening() + 5.0), n(y - 4.0)));
+        body += &text(x + sheet.cells.end(), y, if opening == end { "end" } else { "end changed" }, &end.to_string());
     }
     body
 }

@@ -14,8 +14,8 @@ pub fn strange(line: &Faulty) -> Vec<Finding> {
         let what = "the plan begins with a byte order mark, three bytes that some editors put before the text";
         return vec![finding(1, what, "save the file as plain text, or as UTF-8 without a byte order mark")];
     }
-    let sorts: [fn(&[u8]) -> Option<Finding>; 4] = [carriage_return, tab, control, beyond_ascii];
-    sorts.iter().filter_map(|look| look(text)).collect()
+    let sorts = [carriage_return(text), tab(text), control(text), beyond_ascii(text)];
+    sorts.into_iter().flatten().collect()
 }
 
 fn carriage_return(text: &[u8]) -> Option<Finding> {

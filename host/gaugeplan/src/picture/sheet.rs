@@ -39,94 +39,56 @@ pub struct Sheet {
     pub legend_y: f64,
     pub rows_y: f64,
     pub row_count: usize,
-    pub chart_x: f64,
-    pub chart_width: f64,
-    /// The middle of each column.
-    pub columns: Vec<f64>,
-    widths: Vec<f64>,
-    numbered: Vec<bool>,
+    pub columns: Columns,
     lane_gap: f64,
     /// How jobs were settled stands here, and there what became of their guesses.
     pub right_x: f64,
     pub guess_x: f64,
-    pub cells_y: f64,
-    cell_rows: usize,
-    cell_name: f64,
-    cell_height: f64,
+    pub cells: Cells,
     pub width: f64,
     pub height: f64,
 }
 
+/// The chart, and a column in it for each step.
+pub struct Columns {
+    pub start: f64,
+    pub end: f64,
+    pub middles: Vec<f64>,
+    widths: Vec<f64>,
+    numbered: Vec<bool>,
+}
+
+/// The table of the cells, under the chart.
+pub struct Cells {
+    pub y: f64,
+    rows: usize,
+    /// How wide heights are at most.
+    height: f64,
+}
+
+/// The widest of the words.
+fn longest<'a>(words: impl Iterator<Item = &'a String>) -> f64 {
+    words.map(|word| svg::width(word, BODY)).fold(60.0, f64::max)
+}
+
 impl Sheet {
     pub fn of(plan: &Plan, trace: &Trace, rows: &Rows, lanes: &Lanes, legend: &[Item]) -> Sheet {
-        let longest = |words: &mut dyn Iterator<Item = &String>| words.map(|word| svg::width(word, BODY)).fold(60.0, f64::max);
-        let names = longest(&mut rows.jobs.iter().map(|row| &row.name));
-        let ends = longest(&mut rows.jobs.iter().map(|row| &row.end));
-        let guess_ends = longest(&mut rows.jobs.iter().map(|row| &row.guess_end));
         let lane_gap = (160.0 / lanes.count.max(1) as f64).clamp(3.0, 8.0);
-        let chart_x = MARGIN + 38.0 + names + 18.0 + lane_gap * lanes.count as f64 + 10.0;
-        let widths = widths(trace);
-        let (columns, end) = middles(&widths, chart_x);
-        let right_x = end + if end - chart_x > FAR { 46.0 } else { 12.0 };
-        let guess_x = right_x + ends + 16.0;
-        let head = svg::width(&explain::came(plan, trace), BODY);
-        let width = (guess_x + guess_ends + MARGIN).max(MARGIN + head + MARGIN);
-        let row_count = rows.jobs.len() + usize::from(!rows.strays.is_empty());
+        let names = longest(rows.jobs.iter().map(|row| &row.name));
+        let columns = Columns::of(trace, MARGIN + 38.0 + names + 28.0 + lane_gap * lanes.count as f64);
+        let right_x = columns.end + if columns.are_far() { 46.0 } else { 12.0 };
+        let guess_x = right_x + longest(rows.jobs.iter().map(|row| &row.end)) + 16.0;
+        let table = guess_x + longest(rows.jobs.iter().map(|row| &row.guess_end));
+        let head = MARGIN + svg::width(&explain::came(plan, trace), BODY);
+        let inner_width = table.max(head) - MARGIN;
         let legend_y = MARGIN + 54.0;
-        let rows_y = legend_y + legend::rows(legend, (width - 2.0 * MARGIN).min(PAGE)) as f64 * LINE + 30.0;
-        let foot = if rows.jobs.len() > ROWS_WITHOUT_FOOT { 18.0 } else { 0.0 };
-        let cells_y = rows_y + row_count as f64 * ROW + foot + 30.0;
-        let numbered = numbered(&columns);
-        let mut sheet = Sheet {
-            left: MARGIN,
-            title_y: MARGIN + 14.0,
-            legend_y,
-            rows_y,
-            row_count,
-            chart_x,
-            chart_width: end - chart_x,
-            columns,
-            widths,
-            numbered,
-            lane_gap,
-            right_x,
-            guess_x,
-            cells_y,
-            cell_rows: 0,
-            cell_name: 0.0,
-            cell_height: 0.0,
-            width,
-            height: 0.0,
-        };
-        sheet.place_cells(plan, trace);
-        sheet
-    }
-
-    fn place_cells(&mut self, plan: &Plan, trace: &Trace) {
-        let heights = plan.heights.iter().chain(&trace.heights);
-        self.cell_name = svg::width("cell 63", BODY);
-        self.cell_height = heights.map(|height| svg::digits(&height.to_string(), BODY)).fold(30.0, f64::max);
-        let columns = ((self.page_width() / self.cell_column()) as usize).max(1);
-        self.cell_rows = plan.heights.len().div_ceil(columns).max(1);
-        self.height = self.cells_y + LINE * self.cell_rows as f64 + MARGIN;
-    }
-
-    fn cell_column(&self) -> f64 {
-        self.cell_end() + 36.0
-    }
-
-    /// Where an opening height ends, seen from the cell's place.
-    pub fn cell_opening(&self) -> f64 {
-        self.cell_name + 4.0 + self.cell_height
-    }
-
-    pub fn cell_end(&self) -> f64 {
-        self.cell_opening() + 22.0 + self.cell_height
-    }
-
-    pub fn cell_place(&self, cell: usize) -> (f64, f64) {
-        let (column, row) = (cell / self.cell_rows, cell % self.cell_rows);
-        (self.left + column as f64 * self.cell_column(), self.cells_y + LINE * (row + 1) as f64)
+        let rows_y = legend_y + LINE * legend::rows(legend, inner_width.min(PAGE)) as f64 + 30.0;
+        let row_count = rows.jobs.len() + usize::from(!rows.strays.is_empty());
+        let foot = if rows.jobs.len() > ROWS_WITHOUT_FOOT { 48.0 } else { 30.0 };
+        let cells = Cells::of(plan, trace, rows_y + row_count as f64 * ROW + foot, inner_width.min(PAGE));
+        let (width, height) = (inner_width + 2.0 * MARGIN, cells.y + LINE * cells.rows as f64 + MARGIN);
+        let (left, title_y) = (MARGIN, MARGIN + 14.0);
+        Sheet { left, title_y, legend_y, rows_y, row_count, columns, lane_gap, right_x, guess_x, cells, width, height }
     }
 
     pub fn inner_width(&self) -> f64 {
@@ -135,11 +97,6 @@ impl Sheet {
 
     pub fn page_width(&self) -> f64 {
         self.inner_width().min(PAGE)
-    }
-
-    /// Whether a row's beginning is too far from its end to be followed.
-    pub fn is_far(&self) -> bool {
-        self.chart_width > FAR
     }
 
     pub fn rows_height(&self) -> f64 {
@@ -155,26 +112,17 @@ impl Sheet {
     }
 
     pub fn lane_x(&self, lane: usize) -> f64 {
-        self.chart_x - 12.0 - self.lane_gap * (lane + 1) as f64
+        self.columns.start - 12.0 - self.lane_gap * (lane + 1) as f64
     }
 
     /// The middle of a step's column.
     pub fn x(&self, step: usize) -> f64 {
-        self.columns.get(step).copied().unwrap_or(self.chart_x)
+        self.columns.middles.get(step).copied().unwrap_or(self.columns.start)
     }
 
     /// The same, or the chart's end for what did not end.
     pub fn end_x(&self, step: Option<usize>) -> f64 {
-        step.map_or(self.chart_x + self.chart_width, |step| self.x(step))
-    }
-
-    pub fn is_numbered(&self, column: usize) -> bool {
-        self.numbered.get(column).copied().unwrap_or_default()
-    }
-
-    /// Whether a number has room in a step's column.
-    pub fn has_room(&self, step: usize) -> bool {
-        self.widths.get(step).is_some_and(|width| *width >= NUMBER)
+        step.map_or(self.columns.end, |step| self.x(step))
     }
 
     /// The stretches from one x to another that no mark of the row stands in.
@@ -186,10 +134,68 @@ impl Sheet {
         let starts = std::iter::once(from).chain(marks.iter().copied());
         starts.zip(marks.iter().copied().chain([to])).collect()
     }
+}
+
+impl Columns {
+    fn of(trace: &Trace, start: f64) -> Columns {
+        let widths = widths(trace);
+        let mut end = start + 8.0;
+        let mut middles = Vec::new();
+        for width in &widths {
+            middles.push(end + width / 2.0);
+            end += width;
+        }
+        let numbered = numbered(&middles);
+        Columns { start, end: (end + 8.0).max(start + 60.0), middles, widths, numbered }
+    }
+
+    /// Whether a row's beginning is too far from its end to be followed.
+    pub fn are_far(&self) -> bool {
+        self.end - self.start > FAR
+    }
+
+    pub fn is_numbered(&self, column: usize) -> bool {
+        self.numbered.get(column).copied().unwrap_or_default()
+    }
+
+    /// Whether a number has room in a step's column.
+    pub fn has_room(&self, step: usize) -> bool {
+        self.widths.get(step).is_some_and(|width| *width >= NUMBER)
+    }
 
     pub fn mark_radius(&self) -> f64 {
         let widest = self.widths.iter().copied().fold(0.0, f64::max);
         (widest / 2.0 - 1.0).clamp(4.0, 8.0)
+    }
+}
+
+impl Cells {
+    fn of(plan: &Plan, trace: &Trace, y: f64, width: f64) -> Cells {
+        let heights = plan.heights.iter().chain(&trace.heights);
+        let height = heights.map(|height| svg::digits(&height.to_string(), BODY)).fold(30.0, f64::max);
+        let cells = Cells { y, rows: 1, height };
+        let columns = ((width / cells.column()) as usize).max(1);
+        Cells { rows: plan.heights.len().div_ceil(columns), ..cells }
+    }
+
+    fn column(&self) -> f64 {
+        self.end() + 36.0
+    }
+
+    /// Where an opening height ends, seen from the cell's place.
+    pub fn opening(&self) -> f64 {
+        svg::width("cell 63", BODY) + 4.0 + self.height
+    }
+
+    /// The same of a height at the end.
+    pub fn end(&self) -> f64 {
+        self.opening() + 22.0 + self.height
+    }
+
+    /// A cell's place in the table.
+    pub fn place(&self, cell: usize) -> (f64, f64) {
+        let rows = self.rows.max(1);
+        (MARGIN + (cell / rows) as f64 * self.column(), self.y + LINE * (cell % rows + 1) as f64)
     }
 }
 
@@ -209,20 +215,9 @@ fn widths(trace: &Trace) -> Vec<f64> {
     trace.events.iter().map(|event| if event.is_refused() { narrow.min(width) } else { width }).collect()
 }
 
-/// The middle of each column, and where the last one ends.
-fn middles(widths: &[f64], start: f64) -> (Vec<f64>, f64) {
-    let mut x = start + 8.0;
-    let mut middles = Vec::new();
-    for width in widths {
-        middles.push(x + width / 2.0);
-        x += width;
-    }
-    (middles, (x + 8.0).max(start + 60.0))
-}
-
 /// Which columns are numbered: all, or every second, fifth, tenth and so on.
-fn numbered(columns: &[f64]) -> Vec<bool> {
-    let narrowest = columns.windows(2).map(|two| two[1] - two[0]).fold(f64::INFINITY, f64::min);
+fn numbered(middles: &[f64]) -> Vec<bool> {
+    let narrowest = middles.iter().zip(middles.iter().skip(1)).map(|(one, next)| next - one).fold(f64::INFINITY, f64::min);
     let rounds = (0..6).flat_map(|power| [1, 2, 5].map(|digit| digit * 10_usize.pow(power)));
     let every = rounds.into_iter().find(|every| *every as f64 * narrowest.max(0.5) >= NUMBERS_APART).unwrap_or(1);
     let mut last = f64::NEG_INFINITY;
@@ -233,5 +228,5 @@ fn numbered(columns: &[f64]) -> Vec<bool> {
         }
         is
     };
-    columns.iter().enumerate().map(&mut number).collect()
+    middles.iter().enumerate().map(&mut number).collect()
 }
