@@ -58,25 +58,14 @@ pub fn modes(kind: u8) -> Option<&'static [u8]> {
     }
 }
 
-/// What a worker reports for a job of kind 1 to 6 that was handed these values.
+/// What a worker reports for a job of kind 1 to 6 that was handed these values:
+/// the proved library's result where its archive is linked, else the second hand's.
 pub fn report(job: &Job, handed: [i32; 4]) -> ([i32; 4], u8) {
-    let [a, b, c, _] = handed;
-    let p = job.parameter;
-    let with_first = |value: i32| [value, b, c, handed[3]];
-    match job.kind {
-        1 => (with_first(p), 0),
-        2 => (with_first(a.saturating_add(p)), 0),
-        // Distance and sum are taken in 64 bits: in 32 they could pass the range.
-        3 if (i64::from(a) - i64::from(b)).abs() > i64::from(p) => (with_first(b), 1),
-        4 if a < p => (with_first(p), 1),
-        5 => (
-            with_first((i64::from(b) + i64::from(c)).div_euclid(2) as i32),
-            0,
-        ),
-        6 if a > b => ([b, a, c, handed[3]], 1),
-        3 | 4 | 6 => (handed, 0),
-        other => panic!("kind {other} has no report of its own"),
-    }
+    #[cfg(feature = "proved")]
+    use crate::proved::result;
+    #[cfg(not(feature = "proved"))]
+    use crate::second::result;
+    result(job, handed).expect("a kind from 1 to 6")
 }
 
 /// A xorshift generator with a multiplied output (xorshift64*).
@@ -188,8 +177,9 @@ mod tests {
         assert_eq!(result(6, 0, [7, 7, 0, 0]).1, 0);
     }
 
+    #[cfg(feature = "proved")]
     #[test]
-    fn kinds_agree_with_the_second_hand() {
+    fn results_of_the_library_are_those_of_the_second_hand() {
         let mut random = Random::new(5);
         let mut height = || match random.below(4) {
             0 => i32::MAX - random.below(3) as i32,
@@ -197,11 +187,17 @@ mod tests {
             _ => random.below(7) as i32 - 3,
         };
         for turn in 0..60_000u32 {
-            let kind = 1 + (turn % 6) as u8;
+            let kind = (turn % 8) as u8;
             let (p, handed) = (height(), [height(), height(), height(), 0]);
-            let expected = second_hand::kinds::result(u32::from(kind), p, handed).unwrap();
-            let (values, wrote) = result(kind, p, handed);
-            assert_eq!((values, u32::from(wrote)), (expected.values, expected.mark));
+            let job = Job {
+                kind,
+                parameter: p,
+                ..Job::default()
+            };
+            assert_eq!(
+                crate::proved::result(&job, handed),
+                crate::second::result(&job, handed)
+            );
         }
     }
 

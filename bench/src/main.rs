@@ -98,7 +98,11 @@ fn print_tables(outside: Vec<Row>) {
     print_growth(&subjects);
     // A stack of its own, large enough to be painted.
     let painter = std::thread::Builder::new().stack_size(stack::THREAD_BYTES);
-    let painting = painter.spawn(move || print_stack(&batch, &subjects));
+    let painting = painter.spawn(move || {
+        print_stack(&batch, &subjects);
+        #[cfg(feature = "proved")]
+        print_other_stacks(&batch, &expected);
+    });
     painting.expect("a thread").join().expect("the stack table");
 }
 
@@ -258,4 +262,14 @@ fn print_stack(batch: &Batch, subjects: &[Subject]) {
     let mut header = vec!["", "record"];
     header.extend(CALL_NAMES);
     table::print(&header, &lines);
+}
+
+#[cfg(feature = "proved")]
+fn print_other_stacks(batch: &Batch, drive: &Drive) {
+    println!(
+        "\nThe stack that the proved library's other calls touch; answer: the answer to a plan"
+    );
+    let plan = plans::plan(batch, &drive.steps, plans::MOST_BYTES);
+    let (names, bytes): (Vec<_>, Vec<_>) = proved::other_stacks(batch, &plan).into_iter().unzip();
+    table::print(&names, &[bytes.iter().map(usize::to_string).collect()]);
 }

@@ -11,12 +11,14 @@ use crate::drive::Step;
 use crate::measure::{nanoseconds, samples, Figure};
 use crate::table;
 
-const LENGTHS: [usize; 5] = [4096, 8192, 16384, 32768, 65536];
+/// A plan may not be longer (R122).
+pub const MOST_BYTES: usize = 65536;
+const LENGTHS: [usize; 5] = [4096, 8192, 16384, 32768, MOST_BYTES];
 const TIME_FOR_A_LENGTH: Duration = Duration::from_millis(700);
 
 /// A plan of at most that many bytes: the batch, then its driven steps, over and
 /// over. From the second time on they are refused, and tried all the same.
-fn plan(batch: &Batch, steps: &[Step], bytes: usize) -> String {
+pub fn plan(batch: &Batch, steps: &[Step], bytes: usize) -> String {
     let mut text = String::from("cell value\n");
     for (cell, height) in batch.heights.iter().enumerate() {
         writeln!(text, "{cell} {height}").unwrap();

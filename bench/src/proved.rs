@@ -3,13 +3,16 @@
 //! choosing and asking take a copy of the record.
 
 use sorghemi::raw::{
-    sorghemi_ask_cell, sorghemi_choose, sorghemi_insert, sorghemi_open, sorghemi_seal,
+    sorghemi_answer_plan, sorghemi_ask_batch, sorghemi_ask_cell, sorghemi_ask_job, sorghemi_choose,
+    sorghemi_copy_out, sorghemi_insert, sorghemi_open, sorghemi_result, sorghemi_seal,
     sorghemi_step, sorghemi_step_by_value, Access, Answer,
 };
 use sorghemi::{Record, Report};
 
-use crate::batch::Job;
+use crate::batch::{Batch, Job};
+use crate::drive::{prepare, Unwatched};
 use crate::engine::Engine;
+use crate::stack;
 
 fn read(job: &Job) -> sorghemi::Job {
     sorghemi::Job {
@@ -21,6 +24,41 @@ fn read(job: &Job) -> sorghemi::Job {
             mode: access.mode,
         }),
     }
+}
+
+/// What the job's kind gives; none for a kind that is not 1 to 6.
+pub fn result(job: &Job, handed: [i32; 4]) -> Option<([i32; 4], u8)> {
+    // SAFETY: the four values are this call's own.
+    let outcome = unsafe { sorghemi_result(job.kind, job.parameter, &handed) };
+    (outcome.refusal == 0).then_some((outcome.values, outcome.wrote))
+}
+
+/// The stack that the library's other calls touch, on the sealed batch and on a plan.
+pub fn other_stacks(batch: &Batch, plan: &str) -> [(&'static str, usize); 7] {
+    let Lent(record) = prepare(batch, &mut Unwatched);
+    let job = &batch.jobs[0];
+    let heights = &batch.heights;
+    let mut copied = heights.clone();
+    let (to, places) = (copied.as_mut_ptr(), copied.len());
+    let (text, length) = (plan.as_ptr(), plan.len());
+    let mut buffer = vec![0; sorghemi::LONGEST_ANSWER];
+    let (answer, size) = (buffer.as_mut_ptr(), buffer.len());
+    // SAFETY: the pointers are valid for their lengths.
+    let open = stack::of(|| unsafe { sorghemi_open(heights.as_ptr(), places) });
+    let ask_cell = stack::of(|| unsafe { sorghemi_ask_cell(record, 0) });
+    let ask_job = stack::of(|| unsafe { sorghemi_ask_job(record, 0) });
+    let ask_batch = stack::of(|| unsafe { sorghemi_ask_batch(record) });
+    let copy_out = stack::of(|| unsafe { sorghemi_copy_out(record, to, places, 0) });
+    let answer = stack::of(|| unsafe { sorghemi_answer_plan(text, length, answer, size) });
+    [
+        ("open", open),
+        ("ask cell", ask_cell),
+        ("ask job", ask_job),
+        ("ask batch", ask_batch),
+        ("copy out", copy_out),
+        ("result", stack::of(|| result(job, [0; 4]))),
+        ("answer", answer),
+    ]
 }
 
 pub struct Lent(Record);

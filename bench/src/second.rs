@@ -7,6 +7,13 @@ use crate::engine::{self, Engine};
 
 pub struct SecondHand(pub hand::Batch);
 
+/// What the job's kind gives; none for a kind that is not 1 to 6.
+#[cfg(any(test, not(feature = "proved")))]
+pub fn result(job: &Job, handed: [i32; 4]) -> Option<([i32; 4], u8)> {
+    let report = second_hand::kinds::result(u32::from(job.kind), job.parameter, handed).ok()?;
+    Some((report.values, report.mark as u8))
+}
+
 fn answer<T>(result: Result<T, u32>) -> u8 {
     result.err().unwrap_or(0) as u8
 }

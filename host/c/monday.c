@@ -8,29 +8,59 @@
 /* Ends the program at the first refusal. */
 static void expect_accepted(const char *call, uint8_t refusal)
 {
-    if (refusal != 0) {
-        printf("%s: refused with %d\n", call, refusal);
+    if (refusal != SORGHEMI_ACCEPTED) {
+        printf("%s: refused with %d: %s\n", call, refusal, sorghemi_refusal_words(refusal));
         exit(1);
     }
 }
 
-/* A step with a report, or with zeros where the step has none; prints the values that a start hands out. */
-static void step(sorghemi_batch *batch, uint8_t number, size_t job, sorghemi_report report)
+/* A step with a report, or with zeros where the step has none; prints and hands on the values that a start hands out. */
+static sorghemi_handed step(sorghemi_batch *batch, uint8_t number, size_t job, sorghemi_report report)
 {
     sorghemi_handed handed = sorghemi_step(batch, number, job, report);
     expect_accepted("step", handed.refusal);
     printf("step %d of job %zu", number, job);
-    if (number < 2) {
+    if (number == SORGHEMI_STEP_START_OWN || number == SORGHEMI_STEP_START_SPECULATION) {
         printf(": handed %" PRId32 " %" PRId32, handed.values[0], handed.values[1]);
     }
     printf("\n");
+    return handed;
+}
+
+/* What a worker does: the job's kind says what comes of the values that it was handed. */
+static sorghemi_report work(const sorghemi_job *job, const sorghemi_handed *handed)
+{
+    sorghemi_outcome outcome = sorghemi_result(job->kind, job->parameter, handed->values);
+    sorghemi_report report = {.wrote = outcome.wrote};
+    expect_accepted("result", outcome.refusal);
+    for (size_t place = 0; place < 4; place++) {
+        report.values[place] = outcome.values[place];
+    }
+    return report;
+}
+
+static void print_end(const sorghemi_batch *batch)
+{
+    sorghemi_batch_answer all = sorghemi_batch_ask_batch(batch);
+    expect_accepted("ask", all.refusal);
+    printf("finished: %s\n", all.finished ? "yes" : "no");
+    for (size_t job = 0; job < all.job_count; job++) {
+        sorghemi_job_answer answer = sorghemi_batch_ask_job(batch, job);
+        expect_accepted("ask", answer.refusal);
+        printf("job %zu: how %d, mark %d\n", job, answer.committed, answer.wrote);
+    }
+    int32_t copied[4] = {-1, -1, -1, -1};
+    expect_accepted("copy out", sorghemi_batch_copy_out(batch, copied, 4, 1));
+    printf("cells: %" PRId32 " %" PRId32 "\n", copied[1], copied[2]);
 }
 
 int main(void)
 {
     const int32_t heights[] = {1500, 1480};
-    const sorghemi_job spike = {.kind = 3, .parameter = 1000, .arity = 2, .accesses = {{0, 2}, {1, 0}}};
-    const sorghemi_job shift = {.kind = 2, .parameter = 20, .arity = 1, .accesses = {{0, 1}}};
+    const sorghemi_job spike = {.kind = SORGHEMI_KIND_SPIKE, .parameter = 1000, .arity = 2,
+                                .accesses = {{0, SORGHEMI_MODE_MAYBE_WRITE}, {1, SORGHEMI_MODE_READ}}};
+    const sorghemi_job shift = {.kind = SORGHEMI_KIND_SHIFT, .parameter = 20, .arity = 1,
+                                .accesses = {{0, SORGHEMI_MODE_WRITE}}};
     const sorghemi_report nothing = {{0, 0, 0, 0}, 0};
 
     sorghemi_batch batch;
@@ -39,25 +69,14 @@ int main(void)
     expect_accepted("insert", sorghemi_batch_insert(&batch, shift));
     expect_accepted("seal", sorghemi_batch_seal(&batch, 1));
 
-    step(&batch, 0, 0, nothing);
-    sorghemi_choice choice = sorghemi_choose(batch);
+    sorghemi_handed to_spike = step(&batch, SORGHEMI_STEP_START_OWN, 0, nothing);
+    sorghemi_choice choice = sorghemi_batch_choose(&batch);
     expect_accepted("choose", choice.refusal);
     printf("chosen: step %d of job %d\n", choice.step, choice.job);
-    step(&batch, choice.step, choice.job, nothing);
-    step(&batch, 3, 1, (sorghemi_report){{1520, 0, 0, 0}, 0});
-    step(&batch, 2, 0, (sorghemi_report){{1500, 1480, 0, 0}, 0});
-    step(&batch, 4, 1, nothing);
-
-    sorghemi_batch_answer all = sorghemi_ask_batch(batch);
-    expect_accepted("ask", all.refusal);
-    printf("finished: %s\n", all.finished ? "yes" : "no");
-    for (size_t job = 0; job < all.job_count; job++) {
-        sorghemi_job_answer answer = sorghemi_ask_job(batch, job);
-        expect_accepted("ask", answer.refusal);
-        printf("job %zu: how %d, mark %d\n", job, answer.committed, answer.wrote);
-    }
-    int32_t copied[4] = {-1, -1, -1, -1};
-    expect_accepted("copy out", sorghemi_copy_out(batch, copied, 4, 1));
-    printf("cells: %" PRId32 " %" PRId32 "\n", copied[1], copied[2]);
+    sorghemi_handed to_shift = step(&batch, choice.step, choice.job, nothing);
+    step(&batch, SORGHEMI_STEP_REPORT_SPECULATION, 1, work(&shift, &to_shift));
+    step(&batch, SORGHEMI_STEP_REPORT_OWN, 0, work(&spike, &to_spike));
+    step(&batch, SORGHEMI_STEP_COMMIT, 1, nothing);
+    print_end(&batch);
     return 0;
 }

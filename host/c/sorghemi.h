@@ -1,9 +1,13 @@
 /* The batch engine for hosts in C: a batch record that the host owns, and functions over it.
  *
  * Every function of the library takes the record by value and hands the changed one back with its answer, but for
- * sorghemi_step, to which the host lends its record. An answer's `refusal` is 0, or the number of a refusal
- * (host/README.md has their meanings), and a refused call changes nothing. Functions here that begin with
- * sorghemi_batch_ do the same on a record behind a pointer. What the calls do is said in docs/RULES.md.
+ * sorghemi_step, to which the host lends its record. An answer's `refusal` is SORGHEMI_ACCEPTED or the number of a
+ * refusal, and a refused call changes nothing. Functions here that begin with sorghemi_batch_ do the same on a record
+ * behind a pointer. What the calls do is said in docs/RULES.md, and what a host with threads has to know in
+ * host/README.md.
+ *
+ * Stack: a step touches 100 KB, no other call on a batch more, and the answer to a plan 132 KB (host/README.md has the
+ * figures). A thread with 256 KiB has enough.
  */
 #ifndef SORGHEMI_H
 #define SORGHEMI_H
@@ -12,7 +16,104 @@
 #include <stddef.h>
 #include <stdint.h>
 
-/* One access of a job: a cell by its number, and what the job may do with it: 0 read, 1 write, 2 maybe-write. */
+/* Names for the numbers of the rules. The structs keep the numbers as bytes. */
+
+enum { /* what a job may do with a cell (R3) */
+    SORGHEMI_MODE_READ = 0,
+    SORGHEMI_MODE_WRITE = 1,
+    SORGHEMI_MODE_MAYBE_WRITE = 2,
+};
+
+enum { /* the kinds of jobs (R11 to R17) */
+    SORGHEMI_KIND_OUTSIDE = 0,
+    SORGHEMI_KIND_SET = 1,
+    SORGHEMI_KIND_SHIFT = 2,
+    SORGHEMI_KIND_SPIKE = 3,
+    SORGHEMI_KIND_FLOOR = 4,
+    SORGHEMI_KIND_MEAN = 5,
+    SORGHEMI_KIND_PAIR = 6,
+};
+
+enum { /* the steps (R51 to R55) */
+    SORGHEMI_STEP_START_OWN = 0,
+    SORGHEMI_STEP_START_SPECULATION = 1, /* start the job's guess */
+    SORGHEMI_STEP_REPORT_OWN = 2,
+    SORGHEMI_STEP_REPORT_SPECULATION = 3,
+    SORGHEMI_STEP_COMMIT = 4, /* settle the job by its guess */
+};
+
+enum { /* how a job is settled (R72) */
+    SORGHEMI_COMMITTED_NOT_YET = 0,
+    SORGHEMI_COMMITTED_BY_OWN_RUN = 1,
+    SORGHEMI_COMMITTED_BY_SPECULATION = 2,
+};
+
+enum { /* the state of a job's guess (R40) */
+    SORGHEMI_PHASE_NEVER_STARTED = 0,
+    SORGHEMI_PHASE_OUT = 1,
+    SORGHEMI_PHASE_STORED = 2,
+    SORGHEMI_PHASE_DISCARDED = 3, /* thrown away */
+};
+
+enum { /* how a job's guess is judged (R45) */
+    SORGHEMI_VALIDITY_NO_RUN = 0,    /* there is none out or stored */
+    SORGHEMI_VALIDITY_UNDECIDED = 1, /* it is not yet to be judged */
+    SORGHEMI_VALIDITY_VALID = 2,     /* it stands */
+    SORGHEMI_VALIDITY_INVALID = 3,   /* it has fallen: it will never be settled, and its worker can give it up */
+};
+
+/* The refusals: number, name and words. Refusal n is rule R(100 + n). 22 is the fault of a plan, which no call here gives. */
+#define SORGHEMI_REFUSALS(ROW) \
+    ROW(1, CELL_COUNT, "a batch has 1 to 64 cells") \
+    ROW(2, SEALED, "the list of jobs is sealed") \
+    ROW(3, TOO_MANY_JOBS, "128 jobs are held already") \
+    ROW(4, ACCESS_COUNT, "a job has 1 to 4 accesses") \
+    ROW(5, NO_SUCH_CELL, "there is no such cell") \
+    ROW(6, NO_SUCH_MODE, "a mode is 0 (read), 1 (write) or 2 (maybe-write)") \
+    ROW(7, CELL_TWICE, "a cell stands twice in the job") \
+    ROW(8, WRONG_KIND, "there is no such kind, its modes are others, or it has no result built in") \
+    ROW(9, WRONG_SWITCH, "the guess switch is 0 or 1") \
+    ROW(10, NOT_SEALED, "the list of jobs is not sealed yet") \
+    ROW(11, NO_SUCH_JOB, "there is no such job") \
+    ROW(12, GUESSING_OFF, "guessing is off") \
+    ROW(13, WRONG_STATE, "the job is not in the state for this step") \
+    ROW(14, JOB_READY, "the job is ready: it needs no guess") \
+    ROW(15, MUST_WAIT, \
+        "an earlier job that this one waits for is not settled, or has no report that stands to take a value from") \
+    ROW(16, WRONG_MARK, "a mark is 0 or 1, and 1 only from a job that maybe-writes") \
+    ROW(17, GUESS_STANDS, "the job's guess stands: report or settle it") \
+    ROW(18, GUESS_FALLEN, "the guess has fallen") \
+    ROW(19, NOTHING_TO_START, "no step 4, 0 or 1 is allowed now") \
+    ROW(20, BUFFER_TOO_SMALL, "the buffer has fewer places left than there are cells, or than a plan's answer may take") \
+    ROW(21, NO_SUCH_STEP, "a step's number is 0 to 4; of a plan: the line is not in form, or the plan ends too soon") \
+    ROW(22, PLAN_TOO_LONG, "a plan has at most 65,536 bytes") \
+    ROW(32, OUT_OF_FORM, "the record is out of form, or made for a library with another layout")
+
+enum { /* SORGHEMI_REFUSED_CELL_COUNT and so on */
+    SORGHEMI_ACCEPTED = 0,
+#define SORGHEMI_ROW(number, name, words) SORGHEMI_REFUSED_##name = number,
+    SORGHEMI_REFUSALS(SORGHEMI_ROW)
+#undef SORGHEMI_ROW
+};
+
+/* What the number of a refusal means, in words. */
+static inline const char *sorghemi_refusal_words(uint8_t refusal)
+{
+    switch (refusal) {
+    case SORGHEMI_ACCEPTED:
+        return "accepted";
+#define SORGHEMI_ROW(number, name, words) case number: return words;
+        SORGHEMI_REFUSALS(SORGHEMI_ROW)
+#undef SORGHEMI_ROW
+    default:
+        return "a number that this version does not know";
+    }
+}
+
+/* How many bytes a buffer for the answer to a plan has to have (R153). No answer fills it. */
+#define SORGHEMI_LONGEST_ANSWER 334861
+
+/* One access of a job: a cell by its number, and its mode. */
 typedef struct {
     uint8_t cell;
     uint8_t mode;
@@ -54,9 +155,9 @@ typedef struct {
     int32_t cells[64];
     sorghemi_job jobs[128];
     sorghemi_run runs[128];
-    uint8_t committed[128]; /* how the job is settled: 0 not yet, 1 by its own run, 2 by its guess */
+    uint8_t committed[128]; /* how the job is settled */
     uint8_t running[128];   /* 1 while the job's own run is out, else 0 */
-    uint8_t phase[128];     /* the job's guess: 0 never started, 1 out, 2 with a stored report, 3 thrown away */
+    uint8_t phase[128];     /* the state of the job's guess */
 } sorghemi_batch;
 
 /* What a call that is accepted changes of the record, and nothing else changes (R94 of docs/RULES.md):
@@ -107,8 +208,7 @@ typedef struct {
 } sorghemi_cell_answer;
 
 /* How a job stands: the columns and the run's values as the record has them, and the job as inserted. `wrote` is the
- * mark of a settled job, and 0 before that. `validity` is how its guess is judged (R45): 0 there is none out or stored,
- * 1 it is not yet to be judged, 2 it stands, 3 it has fallen. Zeros where it is refused. */
+ * mark of a settled job, and 0 before that. `validity` is how its guess is judged. Zeros where it is refused. */
 typedef struct {
     uint8_t refusal;
     uint8_t committed;
@@ -149,7 +249,7 @@ extern "C" {
 #endif
 
 /* The library. Refusals: open 1; insert 2 to 8; seal 2, 9; a step 10 to 18, and 21 for a number above 4; choose 10, 19;
- * ask_cell 5; ask_job 11; copy_out 20; and 32, before all others, where the record is out of form. */
+ * ask_cell 5; ask_job 11; copy_out 20; and of these calls, before all others, 32 where the record is out of form. */
 sorghemi_answer sorghemi_open(const int32_t *heights, size_t count);
 sorghemi_answer sorghemi_insert(sorghemi_batch batch, sorghemi_job job);
 sorghemi_answer sorghemi_seal(sorghemi_batch batch, uint8_t guessing);
@@ -165,7 +265,7 @@ uint8_t sorghemi_copy_out(sorghemi_batch batch, int32_t *buffer, size_t size, si
 /* What a job of a kind 1 to 6 reports of the four values handed to it. Refused with 8. */
 sorghemi_outcome sorghemi_result(uint8_t kind, int32_t parameter, const int32_t *handed);
 /* Byte for byte what the program gaugebatch answers to the plan, at the buffer's beginning; the other bytes of the buffer
- * stay. Refused with 20 where the buffer has fewer than 334,861 bytes, which no answer fills. */
+ * stay. Refused with 20 where the buffer has fewer than SORGHEMI_LONGEST_ANSWER bytes. */
 sorghemi_plan_answer sorghemi_answer_plan(const uint8_t *plan, size_t length, uint8_t *buffer, size_t size);
 /* The list of sizes and offsets that the library was built with; 0 past its end. */
 uint32_t sorghemi_layout(size_t place);
@@ -211,7 +311,8 @@ static const uint32_t sorghemi_header_layout[] = {
 };
 #undef SORGHEMI_AT
 
-/* Whether the library was built with the structs of this header. */
+/* Whether the library was built with the structs of this header. A host that does not open its batch here, but goes on with
+ * a record that it kept, asks this first. */
 static inline bool sorghemi_same_layout(void)
 {
     size_t count = sizeof sorghemi_header_layout / sizeof *sorghemi_header_layout;
@@ -228,10 +329,10 @@ static inline bool sorghemi_same_layout(void)
 static inline uint8_t sorghemi_batch_open(sorghemi_batch *batch, const int32_t *heights, size_t count)
 {
     if (!sorghemi_same_layout()) {
-        return 32;
+        return SORGHEMI_REFUSED_OUT_OF_FORM;
     }
     sorghemi_answer answer = sorghemi_open(heights, count);
-    if (answer.refusal == 0) {
+    if (answer.refusal == SORGHEMI_ACCEPTED) {
         *batch = answer.batch;
     }
     return answer.refusal;
@@ -251,6 +352,36 @@ static inline uint8_t sorghemi_batch_seal(sorghemi_batch *batch, uint8_t guessin
     sorghemi_answer answer = sorghemi_seal(*batch, guessing);
     *batch = answer.batch;
     return answer.refusal;
+}
+
+/* The step worth taking next on the record. */
+static inline sorghemi_choice sorghemi_batch_choose(const sorghemi_batch *batch)
+{
+    return sorghemi_choose(*batch);
+}
+
+/* Asks the record for a cell. */
+static inline sorghemi_cell_answer sorghemi_batch_ask_cell(const sorghemi_batch *batch, size_t cell)
+{
+    return sorghemi_ask_cell(*batch, cell);
+}
+
+/* Asks the record for a job. */
+static inline sorghemi_job_answer sorghemi_batch_ask_job(const sorghemi_batch *batch, size_t job)
+{
+    return sorghemi_ask_job(*batch, job);
+}
+
+/* Asks how the record stands. */
+static inline sorghemi_batch_answer sorghemi_batch_ask_batch(const sorghemi_batch *batch)
+{
+    return sorghemi_ask_batch(*batch);
+}
+
+/* Copies the record's cells to the buffer's places from `at` on. */
+static inline uint8_t sorghemi_batch_copy_out(const sorghemi_batch *batch, int32_t *buffer, size_t size, size_t at)
+{
+    return sorghemi_copy_out(*batch, buffer, size, at);
 }
 
 #endif

@@ -284,6 +284,21 @@ impl Batch {
             && !self.has_fallen(job)
     }
 
+    /// R45: 0 there is no guess to judge, 1 it is not yet to be judged, 2 it
+    /// stands, 3 it has fallen. R55: one by which its job is settled stays stored,
+    /// and so is judged like any other.
+    fn judged(&self, job: usize) -> u32 {
+        if self.jobs[job].guess.is_none() || self.is_thrown_away(job) {
+            0
+        } else if self.has_fallen(job) {
+            3
+        } else if self.is_ready(job) {
+            2
+        } else {
+            1
+        }
+    }
+
     fn stored_report(&self, job: usize) -> Option<Report> {
         match &self.jobs[job].guess {
             Some(Guess { state: GuessState::Stored(report), .. }) => Some(*report),
@@ -621,6 +636,14 @@ impl Batch {
     /// R72, as far as plans need it; R111 where there is no such job.
     pub fn ask_job(&self, job: u32) -> Result<Settled, u32> {
         self.jobs.get(job as usize).map(|entry| entry.settled).ok_or(11)
+    }
+
+    /// R72: how the job's guess is judged (R45); R111 where there is no such job.
+    pub fn ask_guess(&self, job: u32) -> Result<u32, u32> {
+        if job as usize >= self.jobs.len() {
+            return Err(11);
+        }
+        Ok(self.judged(job as usize))
     }
 
     /// R74: the cells from that place of the buffer on; all other places keep what

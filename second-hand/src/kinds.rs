@@ -65,3 +65,12 @@ pub fn result(kind: u32, p: i32, handed: [i32; 4]) -> Result<Report, u32> {
     }
     Ok(Report { values, mark })
 }
+
+/// R18: a kind's result asked for by itself: 0 and the report, or the refusal, and
+/// then the values as they were and mark 0.
+pub fn ask_result(kind: u32, p: i32, values: [i32; 4]) -> (u32, Report) {
+    match result(kind, p, values) {
+        Ok(report) => (0, report),
+        Err(refusal) => (refusal, Report { values, mark: 0 }),
+    }
+}

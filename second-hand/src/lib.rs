@@ -6,6 +6,7 @@ pub mod engine;
 pub mod frame;
 pub mod kinds;
 pub mod plan;
+pub mod plans;
 pub mod record;
 
 /// The whole output of the program for one whole input.
@@ -14,4 +15,19 @@ pub fn answer(input: &[u8]) -> Vec<u8> {
         Err(fault) => plan::write_fault(fault),
         Ok(plan) => plan::write_outcome(&plan::run(plan)),
     }
+}
+
+/// R153: as many places a lent buffer needs.
+pub const ANSWER_PLACES: usize = 334_861;
+
+/// R153: the answer to a lent plan comes to stand at the beginning of a lent buffer,
+/// and all other places keep what they hold: 0 and the answer's length. R120, R81:
+/// or 20 and 0, and the whole buffer stays.
+pub fn answer_plan(plan: &[u8], buffer: &mut [u8]) -> (u32, usize) {
+    if buffer.len() < ANSWER_PLACES {
+        return (20, 0);
+    }
+    let answer = answer(plan);
+    buffer[..answer.len()].copy_from_slice(&answer);
+    (0, answer.len())
 }

@@ -40,6 +40,12 @@ const OUT: u8 = 1;
 const STORED: u8 = 2;
 const THROWN_AWAY: u8 = 3;
 
+/// R45: how a guess is judged.
+const NONE_TO_JUDGE: u8 = 0;
+const NOT_YET: u8 = 1;
+const STANDS: u8 = 2;
+const FALLEN: u8 = 3;
+
 /// What places not in use hold (R30), and what a refused call hands out (R81).
 const ZEROS: [i32; 4] = [0; 4];
 
@@ -91,7 +97,8 @@ pub struct Run {
 }
 
 /// R72: how a job stands. All as the record has it, accesses not in use too; but
-/// `wrote` is 0 while the job is not settled. Zeros where it is refused (R81).
+/// `wrote` is 0 while the job is not settled, and `validity` is how its guess is
+/// judged (R45). Zeros where it is refused (R81).
 #[derive(Clone, Copy, PartialEq, Eq, Debug, Default)]
 pub struct JobAnswer {
     pub refusal: u8,
@@ -99,6 +106,7 @@ pub struct JobAnswer {
     pub wrote: u8,
     pub running: u8,
     pub phase: u8,
+    pub validity: u8,
     pub handed: [i32; 4],
     pub reported: [i32; 4],
     pub job: Job,
@@ -474,6 +482,19 @@ impl<'a> Rules<'a> {
         self.has_live_guess(job) && self.is_ready(job) && !self.fallen[job]
     }
 
+    /// R45. Whether the job is settled, or its own run is out, is not asked.
+    fn judged(&self, job: usize) -> u8 {
+        if !self.has_live_guess(job) {
+            NONE_TO_JUDGE
+        } else if self.fallen[job] {
+            FALLEN
+        } else if self.guess_stands(job) {
+            STANDS
+        } else {
+            NOT_YET
+        }
+    }
+
     /// The run that a guess of this job started now would be, or none where a job
     /// that it would take from has no stored guess or a fallen one (R115).
     ///
@@ -799,6 +820,7 @@ impl Record {
             wrote: if settled { run.wrote } else { 0 },
             running: self.running[job],
             phase: self.phase[job],
+            validity: Rules::of(self).judged(job),
             handed: run.handed,
             reported: run.reported,
             job: self.jobs[job],

@@ -158,6 +158,8 @@ struct Pair {
     accepted: [u64; 7],
     refused: [u64; 33],
     four: Four,
+    /// How often a guess was judged 0 to 3 (R45).
+    judged: [u64; 4],
 }
 
 /// What came up of jobs with four accesses: accepted steps by their number;
@@ -276,6 +278,7 @@ impl Pair {
             accepted: [0; 7],
             refused: [0; 33],
             four: Four::default(),
+            judged: [0; 4],
         }
     }
 
@@ -359,7 +362,7 @@ impl Pair {
         }
     }
 
-    fn compare(&self, dice: &mut Dice) {
+    fn compare(&mut self, dice: &mut Dice) {
         assert!(self.record.in_form());
         let cells = self.batch.cell_count();
         let jobs = self.batch.job_count();
@@ -384,7 +387,14 @@ impl Pair {
         for job in 0..jobs {
             self.compare_job(job);
         }
-        assert_eq!(self.record.ask_job(jobs as usize).refusal, 11);
+        assert_eq!(
+            self.record.ask_job(jobs as usize),
+            JobAnswer {
+                refusal: 11,
+                ..JobAnswer::default()
+            }
+        );
+        assert_eq!(self.batch.ask_guess(jobs), Err(11));
         self.compare_choice();
         let at = dice.below(8) as usize;
         let mut one = vec![-9; cells as usize + 4];
@@ -409,7 +419,7 @@ impl Pair {
         }
     }
 
-    fn compare_job(&self, job: u32) {
+    fn compare_job(&mut self, job: u32) {
         let place = job as usize;
         let (committed, wrote) = match self.batch.ask_job(job).unwrap() {
             Settled::No => (0, 0),
@@ -425,12 +435,15 @@ impl Pair {
         let (handed, reported) = self.runs[place];
         let inserted = self.record.jobs[place];
         let running = u8::from(self.batch.own_handed(job).is_some());
+        let validity = self.batch.ask_guess(job).unwrap() as u8;
+        self.judged[usize::from(validity)] += 1;
         let answer = JobAnswer {
             refusal: 0,
             committed,
             wrote,
             running,
             phase,
+            validity,
             handed,
             reported,
             job: inserted,
@@ -519,6 +532,7 @@ fn side_by_side() {
     let mut refused = [0; 33];
     let mut finished = 0;
     let mut four = Four::default();
+    let mut judged = [0; 4];
     for list in 0..700 {
         let pair = match list % 50 {
             0 => one_list(&mut dice, 64, 140, 3000, 300),
@@ -529,6 +543,9 @@ fn side_by_side() {
         };
         finished += u64::from(pair.record.ask_batch().finished);
         four.add(&pair.four);
+        for (sum, more) in judged.iter_mut().zip(pair.judged) {
+            *sum += more;
+        }
         for (sum, more) in accepted.iter_mut().zip(pair.accepted) {
             *sum += more;
         }
@@ -543,6 +560,8 @@ fn side_by_side() {
     }
     println!("side by side, four accesses: {four:?}");
     assert!(four.least() > 20, "{four:?}");
+    println!("side by side, judged 0 to 3: {judged:?}");
+    assert!(judged.iter().all(|&times| times > 1000), "{judged:?}");
 }
 
 /// Also the 129th job and the longest chain.
@@ -1015,6 +1034,84 @@ fn guess_out_of_a_settled_job() {
     assert_eq!(record.runs[0].handed, [4, 0, 0, 6]);
 }
 
+/// How the guesses of the first jobs are judged (R45), by what asking them tells.
+fn judgements<const JOBS: usize>(record: &Record) -> [u8; JOBS] {
+    std::array::from_fn(|job| record.ask_job(job).validity)
+}
+
+/// R45 on what calls lead to: also before the judging is due, a guess that has
+/// fallen is told to have.
+#[test]
+fn judged_on_the_way() {
+    let mut record = guessed();
+    assert_eq!(judgements(&record), [0, 1, 1, 0]);
+    assert_eq!(step(&mut record, 0, 0, 0, 0), 0);
+    let mut marked = record.clone();
+    // Mark 0: job 1 is ready and its guess stands, and settled by it still does.
+    assert_eq!(step(&mut record, 2, 0, 0, 0), 0);
+    assert_eq!(judgements(&record), [0, 2, 1, 0]);
+    assert_eq!(step(&mut record, 4, 1, 0, 0), 0);
+    assert_eq!(judgements(&record), [0, 2, 2, 0]);
+    // Mark 1: both have fallen, that of job 2 though its job is not ready.
+    assert_eq!(step(&mut marked, 2, 0, 1400, 1), 0);
+    assert_eq!(judgements(&marked), [0, 3, 3, 0]);
+    // Thrown away, there is none to judge; what took from it has still fallen.
+    assert_eq!(step(&mut marked, 0, 1, 0, 0), 0);
+    assert_eq!(judgements(&marked), [0, 0, 3, 0]);
+    assert_eq!(step(&mut marked, 2, 1, 5, 0), 0);
+    assert_eq!(judgements(&marked), [0, 0, 3, 0]);
+}
+
+/// R45, R93: how the job is settled and whether its own run is out play no part,
+/// nor does whether the batch is sealed or guessing is on.
+#[test]
+fn judged_whatever_the_job_has_come_to() {
+    for number in 0..3 * 2 * 2 * 2 * 2u8 {
+        let mut record = guessed();
+        record.committed[1] = number % 3;
+        record.running[1] = number / 3 % 2;
+        record.phase[1] = 1 + number / 6 % 2;
+        record.sealed = number / 12 % 2;
+        record.speculating = number / 24;
+        assert_eq!(record.ask_job(1).validity, 1);
+        record.committed[0] = 1;
+        assert_eq!(record.ask_job(1).validity, 2);
+        record.runs[0].wrote = 1;
+        assert_eq!(record.ask_job(1).validity, 3);
+        // Looked past and of mark 1, but not settled.
+        record.committed[0] = 0;
+        assert_eq!(record.ask_job(1).validity, 1);
+        for phase in [0, 3] {
+            record.phase[1] = phase;
+            assert_eq!(record.ask_job(1).validity, 0);
+        }
+    }
+}
+
+/// R43: what fells is the guess of the job taken from, not how that job stands.
+#[test]
+fn judged_by_what_it_took() {
+    let mut record = guessed();
+    record.committed[..2].fill(1);
+    // Never started, of a settled job or not: neither fallen nor thrown away.
+    record.phase[1] = 0;
+    record.runs[0].wrote = 1;
+    assert_eq!(judgements(&record), [0, 0, 2, 0]);
+    record.committed[1] = 0;
+    assert_eq!(judgements(&record), [0, 0, 1, 0]);
+    for (phase, first) in [(1, 3), (2, 3), (3, 0)] {
+        record.phase[1] = phase;
+        assert_eq!(judgements(&record), [0, first, 3, 0]);
+    }
+    // R93: in a place not in use too. Job 3 conflicts with none, and is ready.
+    record.phase[3] = 1;
+    assert_eq!(judgements(&record), [0, 0, 3, 2]);
+    record.runs[3].sources = [0, 0, 0, 3];
+    assert_eq!(judgements(&record), [0, 0, 3, 3]);
+    record.runs[2].sources = [0; 4];
+    assert_eq!(judgements(&record), [0, 0, 1, 2]);
+}
+
 #[test]
 fn own_run_and_guess_out_together() {
     let mut record = guessed();
@@ -1227,6 +1324,42 @@ fn choice(record: &Record) -> (u8, u8, u8, u8) {
     (19, 0, 0, 0)
 }
 
+/// R43 word for word, without what is known of other jobs.
+fn has_fallen(record: &Record, job: usize) -> bool {
+    let run = &record.runs[job];
+    let marked = |k: usize| record.committed[k] != 0 && record.runs[k].wrote == 1;
+    let past = (0..128).any(|k| run.bypassed >> k & 1 == 1 && marked(k));
+    let taken = run.sources.iter().filter(|&&source| source != 0);
+    let lost = |k: usize| record.phase[k] == 3 || has_fallen(record, k);
+    let live = record.phase[job] == 1 || record.phase[job] == 2;
+    live && (past || taken.map(|&source| usize::from(source) - 1).any(lost))
+}
+
+/// R45 word for word.
+fn judged(record: &Record, job: usize) -> u8 {
+    let settled = |k: usize| record.committed[k] != 0;
+    let ready = (0..job).all(|k| settled(k) || !conflict(&record.jobs[k], &record.jobs[job]));
+    match record.phase[job] {
+        1 | 2 if has_fallen(record, job) => 3,
+        1 | 2 if ready => 2,
+        1 | 2 => 1,
+        _ => 0,
+    }
+}
+
+/// What is told of the job's guess, by R45's words, and as 17 and 18 have it: start
+/// own finds that it stands, settle that it has fallen.
+fn judged_alike(record: &Record, job: usize) -> u8 {
+    let validity = record.ask_job(job).validity;
+    assert_eq!(validity, judged(record, job));
+    let [own, .., settle] = answers(record, job);
+    assert!(own != 17 || validity == 2);
+    assert!(own != 0 || validity == 0 || validity == 3);
+    assert!(settle != 18 || validity == 3);
+    assert!(settle != 0 || validity == 2);
+    validity
+}
+
 /// Every field but those of the job's run, columns and cells is as before.
 fn others_kept(before: &Record, after: &Record, job: usize) {
     let mut put_back = after.clone();
@@ -1282,6 +1415,52 @@ fn damage(dice: &mut Dice, record: &Record) -> Record {
     Record::from_bytes(&bytes)
 }
 
+/// The record with any states, marks and origins of its jobs that are in form.
+fn any_states(dice: &mut Dice, record: &Record) -> Record {
+    let mut other = record.clone();
+    for job in 0..usize::from(record.job_count) {
+        other.committed[job] = dice.below(3) as u8;
+        other.running[job] = dice.below(2) as u8;
+        other.phase[job] = dice.below(4) as u8;
+        let run = &mut other.runs[job];
+        run.wrote = dice.below(2) as u8;
+        run.bypassed = u128::from(dice.below(1 << job) & dice.below(1 << job));
+        for source in &mut run.sources {
+            let some = u64::from(dice.one_in(6));
+            *source = (some * dice.below(job as u64 + 1)) as u8;
+        }
+    }
+    other
+}
+
+/// R45 wherever a job may have come to: each of 0 to 3 comes up with each state of
+/// a guess for which it may, of jobs settled and not.
+#[test]
+fn judged_in_any_state() {
+    let mut dice = Dice(0x45_1234_5678);
+    let mut met = [[[0; 4]; 4]; 2];
+    for _ in 0..400 {
+        let sound = one_list(&mut dice, 6, 10, 0, 1000).record;
+        for _ in 0..10 {
+            let record = any_states(&mut dice, &sound);
+            assert!(record.in_form());
+            for job in 0..usize::from(record.job_count) {
+                let settled = usize::from(record.committed[job] != 0);
+                let validity = judged_alike(&record, job);
+                met[settled][usize::from(record.phase[job])][usize::from(validity)] += 1;
+            }
+        }
+    }
+    println!("judged in any state, by settled, state of the guess, and number: {met:?}");
+    for phases in met {
+        for (phase, numbers) in phases.iter().enumerate() {
+            let may = |number: usize| (phase == 1 || phase == 2) == (number != 0);
+            let came_up = |number: usize| numbers[number] > 100;
+            assert!((0..4).all(|n| came_up(n) == may(n)), "{met:?}");
+        }
+    }
+}
+
 #[test]
 fn damaged_records() {
     let mut dice = Dice(0xDA3A_6ED0_1111_2222);
@@ -1300,6 +1479,7 @@ fn damaged_records() {
             }
             in_form += 1;
             for job in 0..usize::from(record.job_count) {
+                judged_alike(&record, job);
                 // Steps 2 and 3 with either mark.
                 for (number, mark) in [(0, 0), (1, 0), (2, 0), (3, 0), (4, 0), (2, 1), (3, 1)] {
                     let mut after = record.clone();

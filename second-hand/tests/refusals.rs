@@ -1,7 +1,7 @@
 //! R101 to R122: each refusal once or more, and the order among them (R100).
 
 use second_hand::engine::{Access, Batch, Report, MAYBE, READ, WRITE};
-use second_hand::{answer, kinds};
+use second_hand::{answer, answer_plan, kinds, ANSWER_PLACES};
 
 fn on(cell: u32, mode: u32) -> Access {
     Access { cell, mode }
@@ -56,8 +56,15 @@ fn refusals_2_to_9() {
     refused(&mut open, 8, |b| b.insert(1, 0, &[on(1, WRITE), on(0, READ)]));
     refused(&mut open, 8, |b| b.insert(3, 0, &[on(1, MAYBE)]));
     refused(&mut open, 9, |b| b.seal(2));
-    assert_eq!(kinds::result(0, 0, [0; 4]), Err(8));
-    assert_eq!(kinds::result(7, 0, [0; 4]), Err(8));
+    for kind in [0, 7, 255] {
+        assert_eq!(kinds::result(kind, 0, [0; 4]), Err(8));
+        // R18: the values come back as they were, and the mark is 0.
+        let back = Report { values: [9, 8, 7, 6], mark: 0 };
+        assert_eq!(kinds::ask_result(kind, -1, [9, 8, 7, 6]), (8, back));
+    }
+    // R18: those in places that the kind does not use too.
+    let changed = Report { values: [8, 9, 7, 6], mark: 1 };
+    assert_eq!(kinds::ask_result(6, -1, [9, 8, 7, 6]), (0, changed));
 
     for _ in 0..128 {
         open.insert(0, 0, &[on(0, READ)]).unwrap();
@@ -161,6 +168,7 @@ fn refusals_19_20_and_those_of_asking() {
     assert_eq!(none.ask_cell(1), Ok(4));
     refused(&mut none, 5, |b| b.ask_cell(2));
     refused(&mut none, 11, |b| b.ask_job(0));
+    refused(&mut none, 11, |b| b.ask_guess(0));
     none.seal(1).unwrap();
     refused(&mut none, 19, |b| b.choose());
 
@@ -315,4 +323,36 @@ fn refusal_22() {
     fault_of(&plan, 22, 0);
     fault_of(&"x".repeat(65_537), 22, 0);
     fault_of(&"x".repeat(65_536), 21, 1);
+}
+
+/// R153, R120.
+#[test]
+fn refusal_20_of_a_lent_plan() {
+    for size in [0, 1, ANSWER_PLACES - 1] {
+        let mut buffer = vec![7; size];
+        assert_eq!(answer_plan(SOUND.as_bytes(), &mut buffer), (20, 0));
+        assert_eq!(answer_plan(&[b'x'; 65_537], &mut buffer), (20, 0));
+        assert_eq!(buffer, vec![7; size]);
+    }
+    for size in [ANSWER_PLACES, ANSWER_PLACES + 5] {
+        let mut buffer = vec![7; size];
+        let due = told(SOUND);
+        assert_eq!(answer_plan(SOUND.as_bytes(), &mut buffer), (0, due.len()));
+        assert_eq!(buffer[..due.len()], *due.as_bytes());
+        assert_eq!(buffer[due.len()..], vec![7; size - due.len()]);
+    }
+}
+
+/// The shortest step lines with the longest answers: 5 bytes for 4. Other lines give
+/// less for their length, but for the heights of at most 64 cells, which may grow by
+/// 10 bytes each. So no answer fills R153's buffer by far.
+#[test]
+fn a_long_answer() {
+    let mut plan = String::from("cell value\n0 1234\nkind p a b c\nguess\n0\nstep job\n");
+    let steps = (65_536 - plan.len()) / 4;
+    plan += &"0 0\n".repeat(steps);
+    assert_eq!(plan.len(), 65_536);
+    let longest = 12 + 5 * steps + 13 + 11 + 7;
+    assert_eq!((told(&plan).len(), longest), (81_903, 81_903));
+    assert!(4 * (longest + 64 * 10) < ANSWER_PLACES);
 }

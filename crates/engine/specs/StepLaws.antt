@@ -38,6 +38,13 @@ step-early b j rest e = cases (inForm b) (not (snapshotOf b .sealed)) (leb (snap
     cases true false true e = refl
     cases true false false e = absurd (let z : _≡_ {A = ℕ} 0 1 = cc in omega arith)
 
+-- What the pass over the invalid runs says of a job held.
+pub held-invalid : (b : Batch) (j : ℕ) → j < b .«job_count» → b .«job_count» ≤ 128
+    → (flags : List Bool) → flags ≡ column 128 (b .«job_count») (isInvalid (snapshotOf b)) false
+    → getD flags j false ≡ isInvalid (snapshotOf b) j
+held-invalid b j held few flags f =
+    rw f (column-at 128 (b .«job_count») j (isInvalid (snapshotOf b)) false false held (omega (arith, held, few)))
+
 module _ (b : Batch) (j : ℕ) (e : stepRefusal b j ≡ 0) where
   unsealed-no : (not (snapshotOf b .sealed) ≡ false) × (firstOf (when (leb (snapshotOf b .jobCount) j) 11 ∷ []) ≡ 0)
   unsealed-no =
@@ -61,11 +68,6 @@ module _ (b : Batch) (j : ℕ) (e : stepRefusal b j ≡ 0) where
   pub step-then : (rest : List Refusal) → refusalOn b (stepTests (snapshotOf b) j rest) ≡ firstOf rest
   unfolding firstOf
   step-then rest = rw (allowed-form b (stepTests (snapshotOf b) j []) e, unsealed-no .0, none-no)
-
-  -- What the pass over the invalid runs says of it.
-  pub step-invalid : (flags : List Bool) → flags ≡ column 128 (b .«job_count») (isInvalid (snapshotOf b)) false
-      → getD flags j false ≡ isInvalid (snapshotOf b) j
-  step-invalid flags f = rw f (column-at 128 (b .«job_count») j (isInvalid (snapshotOf b)) false false step-held step-place)
 
 -- A step that is not refused is on a job held, for which the columns have a place.
 pub allowed-step : (b : Batch) (j : ℕ) (rest : List Refusal) → refusalOn b (stepTests (snapshotOf b) j rest) ≡ 0 → stepRefusal b j ≡ 0
@@ -108,7 +110,7 @@ module _ (b : Batch) (j : ℕ) {early : ℕ} (asked : early ≡ stepRefusal b j)
 
   pub invalid-of : early ≡ 0 → (flags : List Bool) → flags ≡ column 128 (b .«job_count») (isInvalid (snapshotOf b)) false
       → getD flags j false ≡ isInvalid (snapshotOf b) j
-  invalid-of e = step-invalid b j (sym asked ∙ e)
+  invalid-of e = held-invalid b j (held-of e) (few-of e)
 
 -- What an accepted start of a speculative run answers.
 pub speculation-accepted : (b : Batch) (j : ℕ) → startSpeculationRefusal b j ≡ 0 → startedSpeculation b j ≡ speculationStarted b j

@@ -4,6 +4,8 @@ ghost use mathlib.Core.Path.{_≡_};
 ghost use mathlib.Core.List.{_++_};
 ghost use Prim.Native.Nat.{_≤_, _<_};
 ghost use lib.ListN.{length, take, drop};
+ghost use Rattle.rules.specs.Speculation.{validity};
+ghost use Rattle.engine.specs.Record.{snapshotOf};
 ghost use Rattle.engine.specs.Ask.{cellRefusal, askedCell};
 ghost use Rattle.engine.specs.Ask.{shownMark, jobAskRefusal, shownJob, refusedJob, askedJob};
 ghost use Rattle.engine.specs.Ask.{anyUncommitted, isFinished, askedBatch, copyAnswer, bufferAfter};
@@ -11,6 +13,7 @@ use crate::Batch;
 use crate::BatchAnswer;
 use crate::CellAnswer;
 use crate::JobAnswer;
+use crate::speculation::is_live;
 use dependence::Access;
 use dependence::Job;
 
@@ -41,6 +44,7 @@ fn refused_job(refusal: u8) -> JobAnswer
         wrote: 0,
         running: 0,
         phase: 0,
+        validity: 0,
         handed: [0; 4],
         reported: [0; 4],
         job,
@@ -99,9 +103,30 @@ impl Batch {
         32
     }
 
+    /// R45: how the speculative run of job `j` is judged.
+    fn validity(self, j: usize) -> u8
+        requires { ⌜ (j < self .«job_count») × (self .«job_count» ≤ 128) ⌝ }
+        ensures { λ r. ⌜ r ≡ validity (snapshotOf self) j ⌝ }
+    {
+        let phase = self.phase[j];
+        if is_live(phase) {
+            let invalid = self.invalid_flags();
+            if invalid[j] {
+                return 3;
+            }
+            let jobs = self.jobs;
+            let committed = self.committed;
+            if dependence::is_ready(jobs, committed, j) {
+                return 2;
+            }
+            return 1;
+        }
+        0
+    }
+
     /// What is held of job `j`, with its mark once it is committed.
     fn shown_job(self, j: usize) -> JobAnswer
-        requires { ⌜ j < 128 ⌝ }
+        requires { ⌜ (j < self .«job_count») × (self .«job_count» ≤ 128) ⌝ }
         ensures { λ r. ⌜ r ≡ shownJob self j ⌝ }
     {
         let job = self.jobs[j];
@@ -109,6 +134,7 @@ impl Batch {
         let committed = self.committed[j];
         let running = self.running[j];
         let phase = self.phase[j];
+        let validity = self.validity(j);
         let wrote = shown_mark(committed, run.wrote);
         let handed = run.handed;
         let reported = run.reported;
@@ -118,6 +144,7 @@ impl Batch {
             wrote,
             running,
             phase,
+            validity,
             handed,
             reported,
             job,

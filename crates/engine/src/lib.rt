@@ -66,7 +66,8 @@ pub struct CellAnswer {
 }
 
 /// What asking a job answers: how it was committed and its mark, whether its own run is out, the phase of its
-/// speculative run, the values of the run it holds, and the job as inserted. All are 0 where it is refused.
+/// speculative run and its validity (0 no such run is out or stored, 1 not decided yet, 2 valid, 3 invalid), the values
+/// of the run it holds, and the job as inserted. All are 0 where it is refused.
 #[repr(C)]
 pub struct JobAnswer {
     pub refusal: u8,
@@ -74,6 +75,7 @@ pub struct JobAnswer {
     pub wrote: u8,
     pub running: u8,
     pub phase: u8,
+    pub validity: u8,
     pub handed: [i32; 4],
     pub reported: [i32; 4],
     pub job: Job,

@@ -18,9 +18,8 @@ use Rattle.kinds.specs.Kinds.{reported, tableOf, resultOf}
 use Rattle.jobset.specs.JobSet.{bit, withBit, hasJob, withJob, reachesTo}
 use Rattle.rules.specs.Values.{writeBack}
 use Rattle.rules.specs.Walk.{sourceBelow}
-use Rattle.rules.specs.Speculation.{isReady, invalidBelow, isInvalid}
+use Rattle.rules.specs.Speculation.{isReady, invalidBelow, isInvalid, validity}
 use Rattle.walk.specs.Sources.{setOf}
-use Rattle.engine.specs.Record.{snapshotOf}
 use Rattle.engine.specs.Form.{jobOut, inForm}
 use Rattle.engine.specs.Opening.{opened, withInserted, inserted, withSealed, sealedWith}
 use Rattle.engine.specs.Steps.{withJobChanged, startedOwn, startedSpeculation, reportedOwn, reportedSpeculation, committedBy}
@@ -41,8 +40,8 @@ pub data Example : Type 0 where
   settled : Plan → ℕ → ℕ → ℕ → Example
   -- after the plan: the cell, and its height
   height : Plan → ℕ → ℤ → Example
-  -- after the plan the job's guess has fallen
-  invalid : Plan → ℕ → Example
+  -- after the plan: the job, and how its guess is judged
+  judged : Plan → ℕ → ℕ → Example
   -- after the plan: one line more, and the answer to it
   next : Plan → Line → ℕ → Example
 
@@ -52,7 +51,7 @@ Holds (conflict earlier later answer) = conflicts earlier later ≡ answer
 Holds (answers plan list) = answersIn plan ≡ list
 Holds (settled plan j how mark) = settledIn (final plan) j ≡ record { how = how; mark = mark }
 Holds (height plan x value) = askedCell (final plan) x .height ≡ value
-Holds (invalid plan j) = isInvalid (snapshotOf (final plan)) j ≡ true
+Holds (judged plan j number) = askedJob (final plan) j .validity ≡ number
 Holds (next plan line answer) = answerTo (final plan) line ≡ answer
 
 -- The kinds by their names.
@@ -215,10 +214,18 @@ table =
     ∷ answers plan9 (0 ∷ 0 ∷ 0 ∷ 0 ∷ 0 ∷ 0 ∷ 0 ∷ 0 ∷ 0 ∷ 0 ∷ [])
     ∷ settled plan9 0 1 1
     ∷ height plan9 0 (pos 1400)
-    ∷ invalid plan9 1
-    ∷ invalid plan9 2
+    ∷ judged plan9 1 3
+    ∷ judged plan9 2 3
     ∷ next plan9 (step 0 2) 15
     ∷ next plan9 (step 0 1) 0
+    -- R45: no guess is started; it is out, and stored, and the job is not ready; the job is ready and the guess stands, and
+    -- does so once the job is settled by it; it is thrown away.
+    ∷ judged (first 4 plan8) 1 0
+    ∷ judged (first 5 plan8) 1 1
+    ∷ judged (first 6 plan8) 1 1
+    ∷ judged (first 7 plan8) 1 2
+    ∷ judged plan8 1 2
+    ∷ judged (plan9 then step 0 1) 1 0
     -- R112: a guess with guessing off.
     ∷ next planOff (step 1 1) 12
     -- R113, start own: the job is settled; its own run is out.
@@ -270,7 +277,7 @@ table =
 pub examples-hold : AllHold Holds table
 unfolding resultOf tableOf conflicts touches
     perform answersTo afterAll cellRefusal askedCell jobAskRefusal shownJob askedJob opened inserted sealedWith startedOwn startedSpeculation reportedOwn reportedSpeculation committedBy
-    withInserted withSealed withJobChanged inForm jobOut jobRefusal firstOf isReady isInvalid invalidBelow
+    withInserted withSealed withJobChanged inForm jobOut jobRefusal firstOf isReady isInvalid invalidBelow validity
     sourceBelow setOf writeBack bit withBit hasJob withJob reachesTo anyBelow foldBelow
 examples-hold =
     refl also refl  -- P1
@@ -282,6 +289,7 @@ examples-hold =
     also refl also refl  -- P7
     also refl also refl also refl also refl also refl  -- P8
     also refl also refl also refl also refl also refl also refl also refl  -- P9
+    also refl also refl also refl also refl also refl also refl  -- how a guess is judged
     also refl  -- 12
     also refl also refl  -- 13, start own
     also refl also refl also refl also refl also refl  -- 13, start guess

@@ -23,6 +23,7 @@ pub const PAIR: u8 = 6;
 pub const NO_SUCH_KIND: u8 = 8;
 
 /// What a job of some kind reports: one value for each access, and whether its uncertain writes took place (1) or not (0).
+#[repr(C)]
 pub struct Outcome {
     pub refusal: u8,
     pub values: [i32; 4],

@@ -46,6 +46,10 @@ isInvalid s j = invalidGiven s (invalidBelow s j) j
 abbrev pub isValid : Snapshot → ℕ → Bool
 isValid s j = isLive (s .phase j) && not (isInvalid s j)
 
+-- R45: how the guess of job j is judged: 3 it has fallen, 2 it stands, 1 it is not yet to be judged, 0 there is none.
+unfoldable pub validity : Snapshot → ℕ → ℕ
+validity s j = cond (isLive (s .phase j)) (cond (isInvalid s j) 3 (cond (isReady s j) 2 1)) 0
+
 -- R115: a guess of job j cannot start, since a job that it would take from has no stored guess, or a fallen one.
 abbrev pub unusable : Snapshot → ℕ → Bool
 unusable s source = cond (eqb source 0) false (not (isStored (s .phase (source - 1))) || isInvalid s (source - 1))

@@ -38,14 +38,20 @@ abbrev cellAnswer : List ℕ
 cellAnswer = 8 ∷ 0 ∷ 4 ∷ []
 
 abbrev jobAnswer : List ℕ
-jobAnswer = 60 ∷ 0 ∷ 1 ∷ 2 ∷ 3 ∷ 4 ∷ 8 ∷ 24 ∷ 40 ∷ []
+jobAnswer = 60 ∷ 0 ∷ 1 ∷ 2 ∷ 3 ∷ 4 ∷ 5 ∷ 8 ∷ 24 ∷ 40 ∷ []
 
 abbrev batchAnswer : List ℕ
 batchAnswer = 6 ∷ 0 ∷ 1 ∷ 2 ∷ 3 ∷ 4 ∷ 5 ∷ []
 
+abbrev outcome : List ℕ
+outcome = 24 ∷ 0 ∷ 4 ∷ 20 ∷ []
+
+abbrev planAnswer : List ℕ
+planAnswer = 16 ∷ 0 ∷ 8 ∷ []
+
 abbrev pub layout : List ℕ
 layout =
-    1
+    2
     ∷ batch ++ run ++ jobSet ++ job ++ access
     ++ report ++ handed ++ started ++ answer
-    ++ choice ++ cellAnswer ++ jobAnswer ++ batchAnswer
+    ++ choice ++ cellAnswer ++ jobAnswer ++ batchAnswer ++ outcome ++ planAnswer

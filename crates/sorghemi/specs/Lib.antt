@@ -1,2 +1,4 @@
 pub mod Step
+pub mod Plan
+pub mod PlanLaws
 pub mod Layout

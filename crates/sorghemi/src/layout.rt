@@ -5,9 +5,9 @@ ghost use lib.ListN.{getD};
 ghost use Rattle.sorghemi.specs.Layout.{layout};
 
 /// The version of the list, then of each struct its size and the offsets of its fields in their order.
-const NUMBERS: [u32; 66] = [
+const NUMBERS: [u32; 74] = [
     // the version
-    1,
+    2,
     // Batch
     10376,
     0,
@@ -75,6 +75,7 @@ const NUMBERS: [u32; 66] = [
     2,
     3,
     4,
+    5,
     8,
     24,
     40,
@@ -86,6 +87,15 @@ const NUMBERS: [u32; 66] = [
     3,
     4,
     5,
+    // Outcome
+    24,
+    0,
+    4,
+    20,
+    // PlanAnswer
+    16,
+    0,
+    8,
 ];
 
 /// R95: the number at a place of the list that hosts compare their own with; 0 past its end.
@@ -94,7 +104,7 @@ pub extern "C" fn sorghemi_layout(place: usize) -> u32
     ensures { λ r. ⌜ r ≡ getD layout place 0 ⌝ }
 {
     let numbers = NUMBERS;
-    if place < 66 {
+    if place < 74 {
         return numbers[place];
     }
     0

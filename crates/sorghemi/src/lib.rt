@@ -4,7 +4,9 @@
 
 mod layout;
 mod opening;
+mod plans;
 mod reading;
+mod result;
 mod step;
 
 /// What a worker reports: a value for each access, and 1 if the maybe-write cells were written, else 0.
@@ -19,4 +21,11 @@ pub struct Report {
 pub struct Handed {
     pub refusal: u8,
     pub values: [i32; 4],
+}
+
+/// What answering a plan tells: 0 or the number of its refusal, and how many bytes the answer has, 0 where it is refused.
+#[repr(C)]
+pub struct PlanAnswer {
+    pub refusal: u8,
+    pub length: usize,
 }

@@ -39,6 +39,14 @@
 //! assert_eq!(refusal.number(), 1);
 //! assert_eq!(refusal.to_string(), "refused with 1: a batch has 1 to 64 cells");
 //! ```
+//!
+//! A host with threads puts one lock round its batch; `examples/threads.rs` is such a host, and host/README.md says what it has to
+//! know.
+//!
+//! # Stack
+//!
+//! A step touches 100 KB of stack, no other call on a batch more, and [`answer`] 132 KB (host/README.md has the figures). A
+//! thread with 256 KiB has enough; Rust's have 2 MiB if nothing else is said.
 #![warn(missing_docs)]
 
 mod batch;

@@ -9,8 +9,8 @@ pub const LONGEST_ANSWER: usize = 334_861;
 /// What the program `gaugebatch` answers to the plan, byte for byte, from the proved library (R153). Any bytes get an answer; one
 /// that is no plan gets its fault with the line: the fault's number is that of a [`Refusal`](crate::Refusal).
 ///
-/// It allocates [`LONGEST_ANSWER`] bytes while it works, and the answer that it gives back holds no more than its length. It
-/// needs far more stack than the other calls (see [the crate's page](crate#stack)).
+/// It allocates [`LONGEST_ANSWER`] bytes, and gives back those that the answer does not fill. It needs more stack than any other
+/// call ([the crate's page](crate#stack) says how much).
 ///
 /// ```
 /// let plan = "\

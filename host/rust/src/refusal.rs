@@ -32,7 +32,7 @@ macro_rules! refusals {
             /// All refusals, in the order of their numbers.
             pub const ALL: &'static [Refusal] = &[$(Refusal::$name),*];
 
-            /// The constant's name and the words.
+            /// Name and words.
             const fn entry(self) -> Option<(&'static str, &'static str)> {
                 match self.0 {
                     $($number => Some((stringify!($name), $words)),)*
@@ -43,7 +43,7 @@ macro_rules! refusals {
     };
 }
 
-// The header for C has the same table.
+// The header for C and host/README.md have the same table (tests/names.rs).
 refusals! {
     1 CELL_COUNT "a batch has 1 to 64 cells"
     2 SEALED "the list of jobs is sealed"
@@ -89,6 +89,11 @@ impl Refusal {
         self.0
     }
 
+    /// The name of its constant.
+    pub fn name(self) -> &'static str {
+        self.entry().map_or("UNKNOWN", |(name, _)| name)
+    }
+
     /// What the number means, in words.
     pub fn meaning(self) -> &'static str {
         self.entry().map_or("a number that this version does not know", |(_, words)| words)
@@ -103,10 +108,7 @@ impl fmt::Display for Refusal {
 
 impl fmt::Debug for Refusal {
     fn fmt(&self, f: &mut fmt::Formatter) -> fmt::Result {
-        match self.entry() {
-            Some((name, _)) => write!(f, "{name} ({})", self.0),
-            None => write!(f, "Refusal({})", self.0),
-        }
+        write!(f, "{} ({})", self.name(), self.0)
     }
 }
 
@@ -127,5 +129,6 @@ mod tests {
             assert_eq!(Refusal(number).meaning() != unknown, is_rule, "{number}");
         }
         assert_eq!(Refusal::ALL.len(), 23);
+        assert!(include_str!("../../c/sorghemi.h").contains(unknown));
     }
 }

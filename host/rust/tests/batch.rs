@@ -2,6 +2,24 @@
 
 use sorghemi::{answer, Batch, Committed, Job, JobState, Kind, Mode, Phase, Record, Refusal, Report, Step, Validity};
 
+/// A small generator of random numbers, the same in every run.
+struct Random(u64);
+
+impl Random {
+    fn below(&mut self, limit: u8) -> u8 {
+        self.0 = self.0.wrapping_mul(6364136223846793005).wrapping_add(1442695040888963407);
+        (self.0 >> 40) as u8 % limit
+    }
+
+    fn step(&mut self) -> Step {
+        Step::from_number(self.below(5)).unwrap()
+    }
+
+    fn report(&mut self) -> Report {
+        Report { values: [i32::from(self.below(100)); 4], wrote: self.below(3) }
+    }
+}
+
 fn sealed(heights: &[i32], jobs: &[Job]) -> Batch {
     let mut batch = Batch::open(heights).unwrap();
     for (expected, job) in jobs.iter().enumerate() {
@@ -149,12 +167,9 @@ fn kinds_have_names() {
 fn a_step_by_value_is_the_step_lent() {
     let jobs = [Job::floor(0, 1400), Job::shift(0, 20), Job::outside(0, &[(0, Mode::Read), (1, Mode::MaybeWrite)])];
     let mut lent = sealed(&[1300, 5], &jobs);
-    let mut random = 1u64;
+    let mut random = Random(1);
     for _ in 0..2000 {
-        random = random.wrapping_mul(6364136223846793005).wrapping_add(1442695040888963407);
-        let step = Step::from_number((random >> 40) as u8 % 5).unwrap();
-        let job = (random >> 33) as usize % 4;
-        let report = Report { values: [(random >> 20) as i32; 4], wrote: (random >> 10) as u8 % 3 };
+        let (step, job, report) = (random.step(), usize::from(random.below(4)), random.report());
         let before = lent.clone();
         let by_value = lent.stepped(step, job, report);
         match lent.step(step, job, report) {
@@ -231,6 +246,40 @@ fn a_record_is_kept_and_taken_up_again() {
     again.report_own(0, Report::default()).unwrap();
     assert_eq!(Batch::from_record(Record::from_bytes(&[0; Record::SIZE])), Err(Refusal::OUT_OF_FORM));
     assert_eq!(Batch::from_record(Record::from_bytes(&[255; Record::SIZE])), Err(Refusal::OUT_OF_FORM));
+}
+
+/// The batch with its jobs in states at random, as no list of calls may lead to them, but each number in form (R91).
+fn in_any_state(batch: &Batch, random: &mut Random) -> Batch {
+    let mut record = *batch.record();
+    for job in 0..record.job_count {
+        let (place, run) = (usize::from(job), &mut record.runs[usize::from(job)]);
+        record.committed[place] = [0, 0, 0, 1, 2][usize::from(random.below(5))];
+        record.running[place] = random.below(2);
+        record.phase[place] = random.below(4);
+        run.wrote = random.below(2);
+        run.sources = [(); 4].map(|()| random.below(job + 1));
+        run.bypassed.low = u64::from(random.below(255)) & ((1 << job) - 1);
+    }
+    Batch::from_record(record).unwrap()
+}
+
+/// What lets `finished` and `cells` have no error: a record in form is in form after every call.
+#[test]
+fn calls_keep_a_record_in_form() {
+    let jobs = [Job::floor(0, 1400), Job::shift(0, 20), Job::spike(1, 0, 9), Job::pair(0, 1), Job::mean(2, 0, 1)];
+    let start = sealed(&[1300, 5, 7], &jobs);
+    let mut random = Random(1);
+    let mut accepted = [0; 5];
+    for _ in 0..3000 {
+        let mut batch = in_any_state(&start, &mut random);
+        for _ in 0..8 {
+            let (step, job) = (random.step(), usize::from(random.below(5)));
+            accepted[step as usize] += batch.step(step, job, random.report()).is_ok() as usize;
+            assert!(Batch::from_record(*batch.record()).is_ok(), "after {step:?} of job {job}");
+        }
+        assert_eq!(batch.cells().len(), 3);
+    }
+    assert!(accepted.iter().all(|&times| times > 100), "{accepted:?}");
 }
 
 #[test]

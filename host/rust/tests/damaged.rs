@@ -1,10 +1,13 @@
 //! Damaged records: bytes of valid records are changed at random, every entry is called on what comes out (and on the valid
-//! ones), and each answer and the record after it are held against the second hand's (`second_hand::record`). DAMAGED=COUNT
-//! sets how many records, SEED=NUMBER which; it prints what was met (`cargo test --test damaged -- --nocapture`).
+//! ones), and each answer and the record after it are held against the second hand's (`second_hand::record`). The same on
+//! records in form whose jobs are in any state. DAMAGED=COUNT sets how many records, SEED=NUMBER which; it prints what was met
+//! (`cargo test --test damaged -- --nocapture`).
 
+mod setting;
 mod theirs;
 
-use sorghemi::raw::{sorghemi_step_by_value, Run};
+use setting::setting;
+use sorghemi::raw::{sorghemi_step_by_value, JobSet, Run};
 use sorghemi::{Batch, Job, Mode, Record, Report, Step};
 use std::collections::BTreeMap;
 use theirs::Both;
@@ -142,6 +145,27 @@ fn damaged(record: &Record, random: &mut Random) -> Record {
     Record::from_bytes(&bytes)
 }
 
+/// The record with any states, marks and origins of its jobs that are in form, so that hardly a list of calls leads there. Of
+/// origins there are few, or every guess would have fallen.
+fn any_states(record: &Record, random: &mut Random) -> Record {
+    let mut record = *record;
+    for job in 0..record.job_count as usize {
+        record.committed[job] = random.below(3) as u8;
+        record.running[job] = random.below(2) as u8;
+        record.phase[job] = random.below(4) as u8;
+        let run = &mut record.runs[job];
+        run.wrote = random.one_in(4) as u8;
+        run.sources = run.sources.map(|_| if random.one_in(6) { random.below(job + 1) as u8 } else { 0 });
+        run.bypassed = JobSet { low: 0, high: 0 };
+        for _ in 0..random.below(3).min(job) {
+            let past = 1u128 << random.below(job);
+            run.bypassed.low |= past as u64;
+            run.bypassed.high |= (past >> 64) as u64;
+        }
+    }
+    record
+}
+
 /// A job for the step: mostly one in the state for it, if there is one, and half of the time one on which it is allowed, if a
 /// few tries find it; else any, and sometimes a number that no job has.
 fn job_for(number: u8, record: &Record, random: &mut Random) -> usize {
@@ -184,16 +208,30 @@ const FOUR: [&str; 9] = [
     "the value for the fourth place was taken from a guess",
 ];
 
-/// How often each entry gave each answer, and what was met of jobs with four accesses.
+/// How a guess is judged, by R45's numbers. Each has to come up.
+const JUDGED: [&str; 4] = ["no guess out or stored", "not yet to be judged", "stands", "fallen"];
+
+/// How often each entry gave each answer, what was met of jobs with four accesses, and how guesses were judged: of jobs that
+/// are not settled, and of settled ones.
 #[derive(Default)]
 struct Met {
     answers: BTreeMap<(&'static str, u8), u64>,
     four: [u64; FOUR.len()],
+    judged: [[u64; 2]; JUDGED.len()],
 }
 
 impl Met {
     fn answer(&mut self, entry: &'static str, answer: u8) {
         *self.answers.entry((entry, answer)).or_default() += 1;
+    }
+
+    /// Asks both hands for the job.
+    fn ask_job(&mut self, both: &Both, job: usize) {
+        let answer = both.ask_job(job);
+        self.answer("ask job", answer.refusal);
+        if answer.refusal == 0 {
+            self.judged[answer.validity as usize][(answer.committed != 0) as usize] += 1;
+        }
     }
 
     /// Makes the step in both hands; what it answers and leaves is the same in both, so what is counted of it holds of both.
@@ -224,6 +262,21 @@ impl Met {
             self.four[what] += 1;
         }
     }
+
+    fn print(&self) {
+        println!("Answers met:");
+        for ((entry, answer), times) in &self.answers {
+            println!("  {entry} {answer}: {times}");
+        }
+        println!("Of jobs with four accesses:");
+        for (what, times) in FOUR.iter().zip(self.four) {
+            println!("  {what}: {times}");
+        }
+        println!("Guesses of jobs not settled, and of settled ones:");
+        for (what, times) in JUDGED.iter().zip(self.judged) {
+            println!("  {what}: {} and {}", times[0], times[1]);
+        }
+    }
 }
 
 /// Calls every entry on the record, each on a copy of its own, and then some steps one after the other.
@@ -232,9 +285,10 @@ fn try_every_entry(record: &Record, random: &mut Random, met: &mut Met) {
     let jobs = record.job_count.clamp(1, 128) as usize;
     let mut both = Both::of(record);
     met.answer("choose", both.choose());
+    let held = if both.ask_batch() == 0 { record.job_count as usize } else { 0 };
     met.answer("ask batch", both.ask_batch());
     met.answer("ask cell", both.ask_cell(random.around(cells)));
-    met.answer("ask job", both.ask_job(random.around(jobs)));
+    met.ask_job(&both, random.around(jobs));
     met.answer("copy out", both.copy_out(random.around(cells + 4), random.around(4)));
     met.answer("insert", Both::of(record).insert(random.job(cells)));
     met.answer("seal", Both::of(record).seal(random.below(3) as u8));
@@ -247,12 +301,20 @@ fn try_every_entry(record: &Record, random: &mut Random, met: &mut Met) {
         let job = job_for(number, &both.ours, random);
         met.step("a further step", &mut both, number, job, random.report());
     }
+    // Every job, on the record and on what the steps have left of it.
+    for both in [Both::of(record), both] {
+        (0..held).for_each(|job| met.ask_job(&both, job));
+    }
+}
+
+/// How many records, and the seed.
+fn settings() -> (u64, u64) {
+    (setting("DAMAGED", 2000), setting("SEED", 1))
 }
 
 #[test]
 fn damaged_records_are_refused_or_answered_soundly() {
-    let setting = |name: &str, otherwise: u64| std::env::var(name).map_or(otherwise, |text| text.parse().unwrap());
-    let (count, seed) = (setting("DAMAGED", 2000), setting("SEED", 1));
+    let (count, seed) = settings();
     let mut random = Random(seed.wrapping_mul(0x9e3779b97f4a7c15) | 1);
     let mut met = Met::default();
     let mut valid = valid_record(&mut random);
@@ -267,15 +329,25 @@ fn damaged_records_are_refused_or_answered_soundly() {
     println!(
         "{count} damaged records of seed {seed}, and a quarter as many whole ones: every answer and record the second hand's."
     );
-    println!("Answers met:");
-    for ((entry, answer), times) in &met.answers {
-        println!("  {entry} {answer}: {times}");
-    }
-    println!("Of jobs with four accesses:");
-    for (what, times) in FOUR.iter().zip(met.four) {
-        println!("  {what}: {times}");
-    }
+    met.print();
     let of = |entry, answer| met.answers.get(&(entry, answer)).copied().unwrap_or(0);
     assert!(of("ask batch", 32) > count / 10 && of("ask batch", 0) > count / 10, "both sorts of records have to come up");
     assert!(met.four.iter().all(|&times| times > 0), "something never came up with four accesses: {:?}", met.four);
+    assert!(met.judged.iter().all(|times| times[0] + times[1] > 0), "no guess was judged so: {:?}", met.judged);
+}
+
+/// R93. A quarter as many as of damaged ones, for all of these are in form.
+#[test]
+fn jobs_in_any_state_are_answered_soundly() {
+    let (count, seed) = settings();
+    let mut random = Random(seed.wrapping_mul(0x9e3779b97f4a7c15) | 1);
+    let mut met = Met::default();
+    for _ in 0..count.div_ceil(4) {
+        let valid = valid_record(&mut random);
+        try_every_entry(&any_states(&valid, &mut random), &mut random, &mut met);
+    }
+    println!("{} records of seed {seed} with jobs in any state: every answer and record the second hand's.", count.div_ceil(4));
+    met.print();
+    assert_eq!(met.answers.get(&("ask batch", 32)), None, "all are in form");
+    assert!(met.judged.iter().flatten().all(|&times| times > 0), "no guess was judged so: {:?}", met.judged);
 }

@@ -78,7 +78,7 @@ impl Both {
         ours.refusal
     }
 
-    pub fn ask_job(&self, job: usize) -> u8 {
+    pub fn ask_job(&self, job: usize) -> JobAnswer {
         let ours = unsafe { sorghemi_ask_job(self.ours, job) };
         let theirs = self.theirs.ask_job(job);
         assert_eq!(
@@ -88,6 +88,7 @@ impl Both {
                 ours.wrote,
                 ours.running,
                 ours.phase,
+                ours.validity,
                 ours.handed,
                 ours.reported,
                 read_job(&ours.job)
@@ -98,12 +99,15 @@ impl Both {
                 theirs.wrote,
                 theirs.running,
                 theirs.phase,
+                theirs.validity,
                 theirs.handed,
                 theirs.reported,
                 theirs.job
-            )
+            ),
+            "ask job {job} of {:?}",
+            self.ours
         );
-        ours.refusal
+        ours
     }
 
     pub fn ask_batch(&self) -> u8 {

@@ -1,7 +1,7 @@
 -- `Batch::job` meets its contract.
 use borrow.Author.Tests.{ne-eqb}
 use Rattle.engine.specs.Ask.{askedJob}
-use Rattle.engine.specs.AskLaws.{job-place}
+use Rattle.engine.specs.AskLaws.{job-held}
 use borrow.Author.Needs.{needs}
 use Rattle.engine.proofs.Batch.job.Statement.{statement}
 use Rattle.engine.proofs.Batch.job.Tie as tie
@@ -17,9 +17,9 @@ returns : tie.Need-returns
 unfolding askedJob
 returns c = rw (c .refused-job .ensures, ← c .before .before .job-ask-refusal .ensures, ne-eqb _ _ (c .before .if1 .taken))
 
--- a job below the count is a place of the columns
+-- the job is held
 shown-job-requires : tie.Need-shown-job-requires
-shown-job-requires c κs = job-place _ _ (c .before .job-ask-refusal .ensures) (c .if1 .left)
+shown-job-requires c κs = job-held _ _ (c .before .job-ask-refusal .ensures) (c .if1 .left)
 
 -- accepted
 returns-2 : tie.Need-returns-2

@@ -25,13 +25,16 @@ element-copy-out-running c = search needs
 element-copy-out-phase : tie.Need-element-copy-out-phase
 element-copy-out-phase c = search needs
 
+validity-requires : tie.Need-validity-requires
+validity-requires c κs = search needs
+
 shown-mark-requires : tie.Need-shown-mark-requires
 shown-mark-requires c κs = search needs
 
--- the mark is the one shown
+-- the mark is the one shown, and the validity the one found
 returns : tie.Need-returns
 unfolding shownJob
-returns c = rw (c .before .before .shown-mark .ensures)
+returns c = rw (c .before .before .shown-mark .ensures, c .before .before .before .validity .ensures)
 
 pub shown-job-spec : {M : Type 1} → statement M
 shown-job-spec =
@@ -44,5 +47,6 @@ shown-job-spec =
     element-copy-out-committed
     element-copy-out-running
     element-copy-out-phase
+    validity-requires
     shown-mark-requires
     returns)

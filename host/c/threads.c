@@ -1,0 +1,187 @@
+/* A batch with several workers: one lock round the record, and threads that take the jobs that the chooser names.
+ *
+ *     gcc -pthread host/c/threads.c target/staticlib/libsorghemi.a -o threads && ./threads 8
+ *
+ * How the threads get on decides which guesses are made, kept and thrown away, and never what the heights are at the end.
+ * host/README.md has what a host with threads has to know; host/rust/examples/threads.rs is the same in Rust. */
+#define _POSIX_C_SOURCE 200809L
+#include "sorghemi.h"
+
+#include <inttypes.h>
+#include <pthread.h>
+#include <stdio.h>
+#include <stdlib.h>
+#include <time.h>
+
+enum {
+    MOST_WORKERS = 64,
+    STACK = 256 * 1024, /* bytes for a worker, enough for any call (host/README.md) */
+    PARTS = 5,          /* of a check */
+};
+
+/* What the workers share. */
+typedef struct {
+    pthread_mutex_t lock;
+    pthread_cond_t changed; /* told whenever a job was reported or settled */
+    sorghemi_batch batch;
+} morning;
+
+static void expect_accepted(const char *call, uint8_t refusal)
+{
+    if (refusal != SORGHEMI_ACCEPTED) {
+        fprintf(stderr, "%s: refused with %d: %s\n", call, refusal, sorghemi_refusal_words(refusal));
+        exit(1);
+    }
+}
+
+/* How long a part of a check takes. A real check has work to do instead. */
+static void take_a_while(void)
+{
+    const struct timespec pace = {.tv_sec = 0, .tv_nsec = 200000};
+    nanosleep(&pace, NULL);
+}
+
+/* Whether the guess that a worker has may still be settled. It may not where it has fallen, or where the job's own run
+ * has taken its place already. */
+static bool is_of_use(morning *today, size_t job)
+{
+    pthread_mutex_lock(&today->lock);
+    sorghemi_job_answer answer = sorghemi_batch_ask_job(&today->batch, job);
+    pthread_mutex_unlock(&today->lock);
+    expect_accepted("ask", answer.refusal);
+    return answer.validity == SORGHEMI_VALIDITY_UNDECIDED || answer.validity == SORGHEMI_VALIDITY_VALID;
+}
+
+/* The job's check of the values that were handed out. False for a guess that is given up. */
+static bool check(morning *today, sorghemi_choice choice, sorghemi_job job, const int32_t *handed, sorghemi_report *report)
+{
+    for (int part = 0; part < PARTS; part++) {
+        if (choice.step == SORGHEMI_STEP_START_SPECULATION && !is_of_use(today, choice.job)) {
+            return false;
+        }
+        take_a_while();
+    }
+    sorghemi_outcome outcome = sorghemi_result(job.kind, job.parameter, handed);
+    expect_accepted("result", outcome.refusal);
+    for (size_t place = 0; place < 4; place++) {
+        report->values[place] = outcome.values[place];
+    }
+    report->wrote = outcome.wrote;
+    return true;
+}
+
+static void hand_in(morning *today, sorghemi_choice choice, sorghemi_report report)
+{
+    bool guess = choice.step == SORGHEMI_STEP_START_SPECULATION;
+    uint8_t number = guess ? SORGHEMI_STEP_REPORT_SPECULATION : SORGHEMI_STEP_REPORT_OWN;
+    uint8_t refusal = sorghemi_step(&today->batch, number, choice.job, report).refusal;
+    /* Refused so, the guess was thrown away while this worker had it. That is no mistake, and nothing is lost. */
+    if (!(guess && refusal == SORGHEMI_REFUSED_WRONG_STATE)) {
+        expect_accepted("report", refusal);
+    }
+}
+
+/* Takes the step that the chooser named. The lock is held before and after, and not while the worker checks. */
+static void take(morning *today, sorghemi_choice choice)
+{
+    sorghemi_report report = {{0, 0, 0, 0}, 0};
+    sorghemi_handed handed = sorghemi_step(&today->batch, choice.step, choice.job, report);
+    expect_accepted("step", handed.refusal);
+    if (choice.step != SORGHEMI_STEP_COMMIT) {
+        sorghemi_job job = today->batch.jobs[choice.job];
+        pthread_mutex_unlock(&today->lock);
+        bool checked = check(today, choice, job, handed.values, &report);
+        pthread_mutex_lock(&today->lock);
+        if (checked) {
+            hand_in(today, choice, report);
+        }
+    }
+    pthread_cond_broadcast(&today->changed);
+}
+
+/* What each worker does until the batch is finished. */
+static void *work(void *shared)
+{
+    morning *today = shared;
+    pthread_mutex_lock(&today->lock);
+    while (!sorghemi_batch_ask_batch(&today->batch).finished) {
+        sorghemi_choice choice = sorghemi_batch_choose(&today->batch);
+        switch (choice.refusal) {
+        case SORGHEMI_ACCEPTED:
+            take(today, choice);
+            break;
+        case SORGHEMI_REFUSED_NOTHING_TO_START: /* before another worker has reported */
+            pthread_cond_wait(&today->changed, &today->lock);
+            break;
+        default:
+            expect_accepted("choose", choice.refusal);
+        }
+    }
+    pthread_mutex_unlock(&today->lock);
+    return NULL;
+}
+
+/* Six gauges. Of the tests some find something and some do not, so that guesses are kept and guesses are thrown away. */
+static void plan(sorghemi_batch *batch)
+{
+    enum { R = SORGHEMI_MODE_READ, W = SORGHEMI_MODE_WRITE, M = SORGHEMI_MODE_MAYBE_WRITE };
+    const int32_t heights[] = {2900, 1500, 1480, 1720, 1390, 1610};
+    const sorghemi_job jobs[] = {
+        {SORGHEMI_KIND_SPIKE, 1000, 2, {{0, M}, {1, R}}}, {SORGHEMI_KIND_SHIFT, 20, 1, {{0, W}}},
+        {SORGHEMI_KIND_SPIKE, 1000, 2, {{2, M}, {3, R}}}, {SORGHEMI_KIND_SHIFT, 20, 1, {{2, W}}},
+        {SORGHEMI_KIND_FLOOR, 1400, 1, {{4, M}}},         {SORGHEMI_KIND_MEAN, 0, 3, {{5, W}, {4, R}, {2, R}}},
+        {SORGHEMI_KIND_PAIR, 0, 2, {{0, M}, {2, M}}},     {SORGHEMI_KIND_FLOOR, 1400, 1, {{1, M}}},
+        {SORGHEMI_KIND_SHIFT, -15, 1, {{1, W}}},          {SORGHEMI_KIND_MEAN, 0, 3, {{3, W}, {0, R}, {1, R}}},
+        {SORGHEMI_KIND_SPIKE, 30, 2, {{5, M}, {3, R}}},   {SORGHEMI_KIND_SHIFT, 7, 1, {{5, W}}},
+    };
+    expect_accepted("open", sorghemi_batch_open(batch, heights, sizeof heights / sizeof *heights));
+    for (size_t job = 0; job < sizeof jobs / sizeof *jobs; job++) {
+        expect_accepted("insert", sorghemi_batch_insert(batch, jobs[job]));
+    }
+    expect_accepted("seal", sorghemi_batch_seal(batch, 1));
+}
+
+static void print_end(const sorghemi_batch *batch)
+{
+    int32_t heights[64];
+    size_t count = sorghemi_batch_ask_batch(batch).cell_count;
+    expect_accepted("copy out", sorghemi_batch_copy_out(batch, heights, 64, 0));
+    printf("cells:");
+    for (size_t cell = 0; cell < count; cell++) {
+        printf(" %" PRId32, heights[cell]);
+    }
+    printf("\n");
+}
+
+/* So many workers, until the last has ended. */
+static void run(morning *today, long workers)
+{
+    pthread_t threads[MOST_WORKERS];
+    pthread_attr_t attributes;
+    pthread_attr_init(&attributes);
+    pthread_attr_setstacksize(&attributes, STACK);
+    for (long worker = 0; worker < workers; worker++) {
+        if (pthread_create(&threads[worker], &attributes, work, today) != 0) {
+            fprintf(stderr, "no thread could be started\n");
+            exit(1);
+        }
+    }
+    for (long worker = 0; worker < workers; worker++) {
+        pthread_join(threads[worker], NULL);
+    }
+    pthread_attr_destroy(&attributes);
+}
+
+int main(int count, char **words)
+{
+    static morning today = {.lock = PTHREAD_MUTEX_INITIALIZER, .changed = PTHREAD_COND_INITIALIZER};
+    long workers = count > 1 ? strtol(words[1], NULL, 10) : 8;
+    if (workers < 1 || workers > MOST_WORKERS) {
+        fprintf(stderr, "usage: threads [WORKERS, 1 to %d]\n", MOST_WORKERS);
+        return 2;
+    }
+    plan(&today.batch);
+    run(&today, workers);
+    print_end(&today.batch);
+    return 0;
+}
