@@ -9,7 +9,7 @@ mod svg;
 use crate::dependence::{Arrow, Link};
 use crate::explain;
 use crate::plan::{Contradiction, Plan, Sound};
-use crate::trace::{self, Cause, Trace};
+use crate::trace::{self, Trace};
 use rows::{Fate, Guess, Row, Rows};
 use sheet::{Sheet, HALF_BAR, HALF_STORED};
 use std::fmt::Write;
@@ -99,7 +99,7 @@ fn dependences(arrows: &[Arrow], lanes: &lanes::Lanes, sheet: &Sheet) -> String 
 fn fall_lines(rows: &Rows, sheet: &Sheet) -> String {
     let mut lines = String::new();
     for (number, row) in rows.jobs.iter().enumerate() {
-        if let Some((step, Cause::LookedPast(by) | Cause::TookFrom(by))) = row.guess.as_ref().and_then(|guess| guess.fell) {
+        if let Some((step, by)) = row.fell() {
             let x = sheet.x(step);
             let _ = write!(lines, "M{} {}V{}", n(x), n(sheet.row_middle(by)), n(sheet.row_middle(number)));
         }
@@ -164,7 +164,7 @@ fn marks(row: &Row, sheet: &Sheet) -> String {
     if let Some((step, mark)) = row.settled {
         body += &svg::mark(sheet.x(step), y, sheet.columns.mark_radius(), mark);
     }
-    if let Some((step, _)) = row.guess.as_ref().and_then(|guess| guess.fell) {
+    if let Some((step, _)) = row.fell() {
         body += &svg::cross(sheet.x(step), y, sheet.columns.mark_radius());
     }
     body + &refusals(&row.refused, y, sheet)

@@ -29,6 +29,8 @@ pub struct Row {
     pub settled: Option<(usize, bool)>,
     /// Refused steps with their numbers.
     pub refused: Vec<(usize, u8)>,
+    /// Steps in which a guess below fell by a job above, so that the line between them crosses the row.
+    pub crossed: Vec<usize>,
 }
 
 pub struct Guess {
@@ -58,6 +60,7 @@ pub fn of(trace: &Trace) -> Rows {
     for (step, event) in trace.events.iter().enumerate() {
         enter(&mut rows, step, event);
     }
+    cross(&mut rows.jobs);
     for (row, state) in rows.jobs.iter_mut().zip(&trace.jobs) {
         row.end = end(state);
         row.guess_end = guess_end(row.guess.as_ref());
@@ -111,6 +114,24 @@ fn fall(rows: &mut Rows, step: usize, settled: &Settled) {
         if let Some(guess) = rows.jobs.get_mut(fall.job).and_then(|row| row.guess.as_mut()) {
             guess.fell = Some((step, fall.cause));
             guess.fate = Fate::Lost;
+        }
+    }
+}
+
+impl Row {
+    /// When its guess fell, and which job that came from.
+    pub fn fell(&self) -> Option<(usize, usize)> {
+        let (step, Cause::LookedPast(by) | Cause::TookFrom(by)) = self.guess.as_ref()?.fell?;
+        Some((step, by))
+    }
+}
+
+fn cross(rows: &mut [Row]) {
+    let falls: Vec<(usize, usize, usize)> =
+        rows.iter().filter_map(|row| row.fell().map(|(step, by)| (step, by, row.number))).collect();
+    for (step, by, number) in falls {
+        for row in rows.iter_mut().take(number).skip(by + 1) {
+            row.crossed.push(step);
         }
     }
 }

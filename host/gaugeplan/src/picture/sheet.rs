@@ -127,8 +127,8 @@ impl Sheet {
 
     /// The stretches from one x to another that no mark of the row stands in.
     pub fn between_marks(&self, row: &Row, from: f64, to: f64) -> Vec<(f64, f64)> {
-        let fell = row.guess.as_ref().and_then(|guess| guess.fell).map(|(step, _)| step);
-        let steps = row.refused.iter().map(|(step, _)| *step).chain(fell);
+        let steps = row.refused.iter().map(|(step, _)| *step).chain(row.fell().map(|(step, _)| step));
+        let steps = steps.chain(row.crossed.iter().copied());
         let mut marks: Vec<f64> = steps.map(|step| self.x(step)).filter(|x| from < *x && *x < to).collect();
         marks.sort_by(f64::total_cmp);
         let starts = std::iter::once(from).chain(marks.iter().copied());

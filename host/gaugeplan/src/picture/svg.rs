@@ -45,9 +45,9 @@ pub fn width(text: &str, size: f64) -> f64 {
     text.chars().count() as f64 * size * 0.57
 }
 
-/// The same for digits, which are wider.
+/// The same for digits in bold, which are wider.
 pub fn digits(text: &str, size: f64) -> f64 {
-    text.chars().count() as f64 * size * 0.64
+    text.chars().count() as f64 * size * 0.7
 }
 
 pub fn text(x: f64, y: f64, class: &str, words: &str) -> String {
