@@ -34,7 +34,8 @@ pub fn has(plan: &Plan) -> String {
 pub fn came(plan: &Plan, trace: &Trace) -> String {
     let own = trace.settled(Committed::ByOwnRun);
     let guess = trace.settled(Committed::BySpeculation);
-    let (all, fallen, refused) = (words::count(plan.jobs.len(), "job"), trace.fallen(), trace.refused());
+    let (jobs, fallen, refused) = (plan.jobs.len(), trace.fallen(), trace.refused());
+    let all = if jobs == 1 { "1 job".to_owned() } else { format!("{jobs} jobs") };
     let settled = format!("Settled at the end: {} of {all}, {own} by an own run and {guess} by a guess.", own + guess);
     format!("{settled} Guesses fallen: {fallen}. Steps refused: {refused}.")
 }

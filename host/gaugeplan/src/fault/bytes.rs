@@ -4,6 +4,7 @@ use super::place::Faulty;
 use crate::fields::{finding, Finding};
 
 const MARK: &[u8] = b"\xef\xbb\xbf";
+const WIDE_MARKS: [&[u8]; 2] = [b"\xff\xfe", b"\xfe\xff"];
 const WIDE_SPACE: &[u8] = b"\xc2\xa0";
 const DASHES: [&[u8]; 3] = [b"\xe2\x88\x92", b"\xe2\x80\x93", b"\xe2\x80\x94"];
 
@@ -13,6 +14,13 @@ pub fn strange(line: &Faulty) -> Vec<Finding> {
     if line.number == 1 && text.starts_with(MARK) {
         let what = "the plan begins with a byte order mark, three bytes that some editors put before the text";
         return vec![finding(1, what, "save the file as plain text, or as UTF-8 without a byte order mark")];
+    }
+    if line.number == 1 && WIDE_MARKS.iter().any(|mark| text.starts_with(mark)) {
+        return vec![finding(
+            1,
+            "the plan is written in UTF-16, with two bytes for a character",
+            "save the file as plain text, or as UTF-8",
+        )];
     }
     let sorts = [carriage_return(text), tab(text), control(text), beyond_ascii(text)];
     sorts.into_iter().flatten().collect()

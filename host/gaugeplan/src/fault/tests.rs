@@ -60,6 +60,7 @@ fn names_lines() {
 fn bytes_and_spaces() {
     let mark = "1: the plan begins with a byte order mark, three bytes that some editors put before the text.";
     check("", "\u{feff}cell value", 21, &[mark]);
+    check("", b"\xff\xfec\0e\0l\0l\0", 21, &["1: the plan is written in UTF-16, with two bytes for a character."]);
     check("", "cell value\r", 21, &["11: the line ends in a carriage return."]);
     check("cell value\n", "0\t1500", 21, &["2: a tab stands in the line."]);
     check("cell value\n", "0 15\r00", 21, &["5: a carriage return stands in the line."]);
