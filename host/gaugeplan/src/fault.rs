@@ -14,6 +14,7 @@ use crate::plan::Fault;
 use crate::streams::Input;
 use crate::words;
 use place::{Faulty, Place};
+use sorghemi::Refusal;
 
 /// What `explain` says of a plan at fault.
 pub fn explained(input: &Input, fault: Fault) -> String {
@@ -60,7 +61,7 @@ fn general(number: u8) -> &'static str {
         9 => "the guess switch is 0 or 1",
         21 => "the line is not in form",
         22 => "the plan is too long",
-        _ => "the library refuses the line",
+        _ => Refusal::from_number(number).map_or("the library refuses the line", Refusal::meaning),
     }
 }
 

@@ -226,3 +226,34 @@ impl Plan {
         self.lines_before_steps + place + 1
     }
 }
+
+#[cfg(test)]
+mod tests {
+    use super::*;
+    use crate::plan::Reading;
+
+    fn thursday() -> Sound {
+        match plan::read(include_bytes!("../../../examples/thursday.plan")) {
+            Ok(Reading::Sound(sound)) => sound,
+            _ => panic!("Thursday's plan is sound"),
+        }
+    }
+
+    #[test]
+    fn an_answer_that_differs_anywhere_is_told() {
+        assert!(of(&thursday()).is_ok());
+        for place in 0..thursday().answer.len() {
+            let mut sound = thursday();
+            sound.answer[place] ^= 1;
+            assert!(of(&sound).is_err(), "byte {place}");
+        }
+    }
+
+    #[test]
+    fn a_fall_has_its_step_and_its_cause() {
+        let trace = of(&thursday()).unwrap();
+        assert_eq!(fall_of(&trace.events, 1), Some((4, Cause::LookedPast(0))));
+        assert_eq!(fall_of(&trace.events, 0), None);
+        assert_eq!((trace.fallen(), trace.refused(), trace.settled(Committed::ByOwnRun)), (1, 1, 2));
+    }
+}
