@@ -11,17 +11,16 @@ mod tests;
 
 use crate::fields::{self, finding, plain, signed, Finding};
 use crate::plan::Fault;
-use crate::streams::Input;
 use crate::words;
 use place::{Faulty, Place};
 use sorghemi::Refusal;
 
 /// What `explain` says of a plan at fault.
-pub fn explained(input: &Input, fault: Fault) -> String {
+pub fn explained(plan: &[u8], fault: Fault) -> String {
     if fault.line == 0 {
-        return too_long(input.size, fault);
+        return too_long(fault);
     }
-    let line = place::find(&input.kept, fault.line);
+    let line = place::find(plan, fault.line);
     let found = findings(&line, fault.number);
     let general = if line.is_end() { "the plan ends too soon" } else { general(fault.number) };
     let mut text = format!("Fault {} on line {}: {general}.\n", fault.number, fault.line);
@@ -39,13 +38,12 @@ pub fn explained(input: &Input, fault: Fault) -> String {
     text + "\nColumns are counted from 1, in bytes. What follows that line was not looked at.\n"
 }
 
-fn too_long(size: u64, fault: Fault) -> String {
+fn too_long(fault: Fault) -> String {
     format!(
-        "Fault {} on line 0: {}.\n\nThe plan has {} bytes, line feeds counted; 65,536 are allowed. Nothing in it was looked at.\n\
+        "Fault {} on line 0: {}.\n\nThe plan has more than 65,536 bytes, line feeds counted. Nothing in it was looked at.\n\
          Repair: leave step lines out, or make two plans of it.\n",
         fault.number,
-        general(fault.number),
-        words::grouped(size)
+        general(fault.number)
     )
 }
 

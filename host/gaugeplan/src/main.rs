@@ -21,7 +21,6 @@ mod words;
 
 use command::{Command, Request};
 use plan::{Contradiction, Faulty, Reading};
-use streams::Input;
 
 /// A plan at fault.
 const FAULTY: u8 = 1;
@@ -79,7 +78,7 @@ struct Answer {
     status: u8,
 }
 
-fn answer(command: Command, input: &Input) -> Answer {
+fn answer(command: Command, input: &[u8]) -> Answer {
     let answered = match command {
         Command::Steps(workers) => steps(input, workers),
         _ => of_whole_plan(command, input),
@@ -91,8 +90,8 @@ fn quiet(output: impl Into<Vec<u8>>, status: u8) -> Answer {
     Answer { output: output.into(), message: String::new(), status }
 }
 
-fn of_whole_plan(command: Command, input: &Input) -> Result<Answer, Contradiction> {
-    Ok(match (command, plan::read(&input.kept)?) {
+fn of_whole_plan(command: Command, input: &[u8]) -> Result<Answer, Contradiction> {
+    Ok(match (command, plan::read(input)?) {
         (Command::Run, Reading::Sound(sound)) => quiet(sound.answer, 0),
         (Command::Run, Reading::Faulty(faulty)) => quiet(faulty.answer, FAULTY),
         (Command::Explain, Reading::Faulty(faulty)) => quiet(fault::explained(input, faulty.fault), FAULTY),
@@ -103,15 +102,15 @@ fn of_whole_plan(command: Command, input: &Input) -> Result<Answer, Contradictio
     })
 }
 
-fn steps(input: &Input, workers: usize) -> Result<Answer, Contradiction> {
-    Ok(match plan::read_without_steps(&input.kept)? {
+fn steps(input: &[u8], workers: usize) -> Result<Answer, Contradiction> {
+    Ok(match plan::read_without_steps(input)? {
         (Reading::Faulty(faulty), _) => refused(input, &faulty),
         (Reading::Sound(sound), text) => quiet(schedule::planned(&text, &sound.plan, workers)?, 0),
     })
 }
 
 /// Nothing can be made of a plan at fault; what is wrong goes to standard error, the library's answer first.
-fn refused(input: &Input, faulty: &Faulty) -> Answer {
+fn refused(input: &[u8], faulty: &Faulty) -> Answer {
     let answer = String::from_utf8_lossy(&faulty.answer);
     Answer { output: Vec::new(), message: format!("{answer}\n{}", fault::explained(input, faulty.fault)), status: FAULTY }
 }

@@ -7,14 +7,15 @@ use std::io::{self, Read, Write};
 extern "C" {
     fn read(descriptor: c_int, buffer: *mut u8, size: usize) -> isize;
     fn write(descriptor: c_int, buffer: *const u8, size: usize) -> isize;
+    fn close(descriptor: c_int) -> c_int;
     fn signal(number: c_int, handler: usize) -> usize;
 }
 
 const SIGPIPE: c_int = 13;
 const SIG_IGN: usize = 1;
 
-/// More than a plan may have; of a longer input only so much is kept.
-const KEPT: u64 = 65_537;
+/// More than a plan may have: whatever follows, the answer is 22, and so nothing more is read (R154).
+const MOST: u64 = 65_537;
 
 /// A descriptor that the program was started with, open or not.
 struct Descriptor(c_int);
@@ -48,26 +49,21 @@ pub fn ignore_broken_pipes() {
     unsafe { signal(SIGPIPE, SIG_IGN) };
 }
 
-/// What stood on standard input.
-pub struct Input {
-    /// All of it, or the first 65,537 bytes of a longer one, which is no plan whatever follows.
-    pub kept: Vec<u8>,
-    /// How many bytes there were.
-    pub size: u64,
+/// The plan on standard input: all that stands there, or the first 65,537 bytes.
+pub fn read_input() -> io::Result<Vec<u8>> {
+    let mut plan = Vec::new();
+    Descriptor(0).take(MOST).read_to_end(&mut plan)?;
+    Ok(plan)
 }
 
-/// All of standard input is read, also where it is too long to be a plan: only then is it known that reading did not fail.
-pub fn read_input() -> io::Result<Input> {
-    let mut input = Descriptor(0);
-    let mut kept = Vec::new();
-    Read::by_ref(&mut input).take(KEPT).read_to_end(&mut kept)?;
-    let rest = io::copy(&mut input, &mut io::sink())?;
-    let size = kept.len() as u64 + rest;
-    Ok(Input { kept, size })
-}
-
+/// Writes all of it, once and for all: some systems tell of a full disk only on closing.
 pub fn write_output(text: &[u8]) -> io::Result<()> {
-    Descriptor(1).write_all(text)
+    Descriptor(1).write_all(text)?;
+    // SAFETY: nothing is written to it afterwards.
+    match unsafe { close(1) } {
+        0 => Ok(()),
+        _ => Err(io::Error::last_os_error()),
+    }
 }
 
 /// A message that cannot be written has nowhere else to go; the status tells the rest.

@@ -93,19 +93,6 @@ pub fn be(number: usize) -> &'static str {
     }
 }
 
-/// A number with a comma before every three digits from the right.
-pub fn grouped(number: u64) -> String {
-    let digits = number.to_string();
-    let mut text = String::new();
-    for (place, digit) in digits.chars().enumerate() {
-        if place > 0 && (digits.len() - place) % 3 == 0 {
-            text.push(',');
-        }
-        text.push(digit);
-    }
-    text
-}
-
 #[cfg(test)]
 mod tests {
     use super::*;
@@ -126,6 +113,5 @@ mod tests {
         assert_eq!(jobs(&[0, 2, 5]), "jobs 0, 2 and 5");
         assert_eq!(jobs(&[4]), "job 4");
         assert_eq!([0, 1, 2].map(|n| count(n, "cell")), ["no cells", "1 cell", "2 cells"]);
-        assert_eq!([5, 999, 65_536, 1_000_000].map(grouped), ["5", "999", "65,536", "1,000,000"]);
     }
 }

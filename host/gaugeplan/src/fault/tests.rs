@@ -2,16 +2,14 @@
 
 use super::explained;
 use crate::plan::{self, Reading};
-use crate::streams::Input;
 
 const CELLS: &str = "cell value\n0 1500\n1 1480\n";
 const JOBS: &str = "kind p a b c\n3 1000 0 1 -\n";
 const SWITCH: &str = "guess\n1\n";
 
 fn told(text: &[u8]) -> String {
-    let input = Input { kept: text.to_owned(), size: text.len() as u64 };
     match plan::read(text).unwrap() {
-        Reading::Faulty(faulty) => explained(&input, faulty.fault),
+        Reading::Faulty(faulty) => explained(text, faulty.fault),
         Reading::Sound(_) => panic!("{:?} is sound", String::from_utf8_lossy(text)),
     }
 }
@@ -135,5 +133,5 @@ fn ends() {
 fn too_long() {
     let text = told(&[b'7'; 65_537]);
     assert!(text.starts_with("Fault 22 on line 0: the plan is too long.\n"), "{text}");
-    assert!(text.contains("The plan has 65,537 bytes"), "{text}");
+    assert!(text.contains("The plan has more than 65,536 bytes"), "{text}");
 }
