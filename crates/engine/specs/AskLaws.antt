@@ -1,21 +1,16 @@
 -- What an accepted question promises, and what it means to be finished.
 use Prim.Native.Nat.{ℕ, _-_, _<_, _≤_}
 use native.Mathlib.Omega.{arith}
-use mathlib.Core.Bool.{Bool, true, false, not, cond}
+use mathlib.Core.Bool.{Bool, true, false, not}
 use mathlib.Core.List.{List, [], _++_, append-assoc, append-nil}
 use mathlib.Core.Path.{_≡_, refl, sym, ap, _∙_}
 use lib.Dec.{eqb, leb, ltb}
-use lib.ListN.{length, take, drop, length-drop, getD}
+use lib.ListN.{length, take, drop, length-drop}
 use lib.Seq.{paste, take-all, drop-length, drop-drop}
 use borrow.Author.Tests.{ltb-false, leb-false}
 use Rattle.laws.specs.SearchLaws.{if-or, any-fails, any-absent, and-left, and-right, not-true}
-use Rattle.laws.specs.Fold.{column}
-use Rattle.dependence.specs.Ready.{ready}
-use Rattle.rules.specs.Snapshot.{isLive}
-use Rattle.rules.specs.Speculation.{isInvalid, validity}
 use Rattle.engine.specs.declared.Batch.{Batch}
-use Rattle.engine.specs.Record.{committedAt, snapshotOf}
-use Rattle.engine.specs.StepLaws.{ready-is, held-invalid}
+use Rattle.engine.specs.Record.{committedAt}
 use Rattle.engine.specs.FormLaws.{form-counts}
 use Rattle.engine.specs.OpeningLaws.{allowed-form, allowed-tests, next-passed}
 use Rattle.engine.specs.Ask.{cellTests, cellRefusal, jobAskTests, jobAskRefusal, copyTests, copyAnswer}
@@ -36,15 +31,6 @@ job-held b j given zero =
     let e = sym given ∙ zero in
     let p = next-passed (leb (b .«job_count») j) 11 [] (omega arith) (allowed-tests b (jobAskTests b j) e) in
     (leb-false (b .«job_count») j (p .0), form-counts b (allowed-form b (jobAskTests b j) e) .few-jobs)
-
--- R45: how a run that is out or stored is judged, by what the code found: the run is live, and these runs are invalid.
-pub live-validity : (b : Batch) (j : ℕ) → j < b .«job_count» → b .«job_count» ≤ 128
-    → {live : Bool} → live ≡ isLive (getD (b .phase) j 0) → live ≡ true
-    → {flags : List Bool} → flags ≡ column 128 (b .«job_count») (isInvalid (snapshotOf b)) false
-    → validity (snapshotOf b) j ≡ cond (getD flags j false) 3 (cond (ready (b .jobs) (b .committed) j) 2 1)
-unfolding validity
-live-validity b j held few found live {flags} f =
-    rw (← found, live, ← ready-is b j, held-invalid b j held few flags f)
 
 -- Where the cells are copied out, the buffer has places for them.
 pub record Room (b : Batch) (size at : ℕ) : Type 0 where

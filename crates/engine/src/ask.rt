@@ -4,7 +4,8 @@ ghost use mathlib.Core.Path.{_≡_};
 ghost use mathlib.Core.List.{_++_};
 ghost use Prim.Native.Nat.{_≤_, _<_};
 ghost use lib.ListN.{length, take, drop};
-ghost use Rattle.rules.specs.Speculation.{validity};
+ghost use mathlib.Core.Bool.{true};
+ghost use Rattle.rules.specs.Speculation.{isInvalid, isReady, judgedAs};
 ghost use Rattle.engine.specs.Record.{snapshotOf};
 ghost use Rattle.engine.specs.Ask.{cellRefusal, askedCell};
 ghost use Rattle.engine.specs.Ask.{shownMark, jobAskRefusal, shownJob, refusedJob, askedJob};
@@ -103,25 +104,21 @@ impl Batch {
         32
     }
 
-    /// R45: how the speculative run of job `j` is judged.
-    fn validity(self, j: usize) -> u8
+    /// R45: how the speculative run of job `j` is judged, where it is out or stored.
+    fn live_validity(self, j: usize) -> u8
         requires { ⌜ (j < self .«job_count») × (self .«job_count» ≤ 128) ⌝ }
-        ensures { λ r. ⌜ r ≡ validity (snapshotOf self) j ⌝ }
+        ensures { λ r. ⌜ r ≡ judgedAs true (isInvalid (snapshotOf self) j) (isReady (snapshotOf self) j) ⌝ }
     {
-        let phase = self.phase[j];
-        if is_live(phase) {
-            let invalid = self.invalid_flags();
-            if invalid[j] {
-                return 3;
-            }
-            let jobs = self.jobs;
-            let committed = self.committed;
-            if dependence::is_ready(jobs, committed, j) {
-                return 2;
-            }
-            return 1;
+        let invalid = self.invalid_flags();
+        if invalid[j] {
+            return 3;
         }
-        0
+        let jobs = self.jobs;
+        let committed = self.committed;
+        if dependence::is_ready(jobs, committed, j) {
+            return 2;
+        }
+        1
     }
 
     /// What is held of job `j`, with its mark once it is committed.
@@ -134,7 +131,11 @@ impl Batch {
         let committed = self.committed[j];
         let running = self.running[j];
         let phase = self.phase[j];
-        let validity = self.validity(j);
+        let mut validity = 0;
+        if is_live(phase) {
+            // only here, since the call copies the whole record
+            validity = self.live_validity(j);
+        }
         let wrote = shown_mark(committed, run.wrote);
         let handed = run.handed;
         let reported = run.reported;

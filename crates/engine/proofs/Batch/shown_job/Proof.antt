@@ -1,4 +1,8 @@
 -- `Batch::shown_job` meets its contract.
+use mathlib.Core.Path.{_≡_, _∙_}
+use mathlib.Core.Logic.{⊎-elim}
+use Rattle.rules.specs.Speculation.{validity}
+use Rattle.engine.specs.Record.{snapshotOf}
 use Rattle.engine.specs.Ask.{shownJob}
 use borrow.Author.Needs.{needs}
 use Rattle.engine.proofs.Batch.shown_job.Statement.{statement}
@@ -25,16 +29,27 @@ element-copy-out-running c = search needs
 element-copy-out-phase : tie.Need-element-copy-out-phase
 element-copy-out-phase c = search needs
 
-validity-requires : tie.Need-validity-requires
-validity-requires c κs = search needs
+is-live-requires : tie.Need-is-live-requires
+is-live-requires c κs = search needs
+
+live-validity-requires : tie.Need-live-validity-requires
+live-validity-requires c κs = search needs
 
 shown-mark-requires : tie.Need-shown-mark-requires
 shown-mark-requires c κs = search needs
 
 -- the mark is the one shown, and the validity the one found
 returns : tie.Need-returns
-unfolding shownJob
-returns c = rw (c .before .before .shown-mark .ensures, c .before .before .before .validity .ensures)
+unfolding shownJob validity
+returns c =
+    let m = c .before .before .before in
+    let a = m .before .before .before .before .before .before .before .args in
+    let found : m .if1 .validity ≡ validity (snapshotOf (a .t1)) (a .j) =
+    ⊎-elim
+    (λ w. w .2 ∙ w .1 .ensures ∙ rw (← m .before .is-live .ensures, w .0 .taken))
+    (λ w. w .1 ∙ rw (← m .before .is-live .ensures, w .0 .left))
+    (m .if1 .came) in
+    rw (c .before .before .shown-mark .ensures, found)
 
 pub shown-job-spec : {M : Type 1} → statement M
 shown-job-spec =
@@ -47,6 +62,7 @@ shown-job-spec =
     element-copy-out-committed
     element-copy-out-running
     element-copy-out-phase
-    validity-requires
+    is-live-requires
+    live-validity-requires
     shown-mark-requires
     returns)
