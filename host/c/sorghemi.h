@@ -87,6 +87,7 @@ enum { /* how a job's guess is judged (R45) */
     ROW(20, BUFFER_TOO_SMALL, "the buffer has fewer places left than there are cells, or than a plan's answer may take") \
     ROW(21, NO_SUCH_STEP, "a step's number is 0 to 4; of a plan: the line is not in form, or the plan ends too soon") \
     ROW(22, PLAN_TOO_LONG, "a plan has at most 65,536 bytes") \
+    ROW(23, TOTAL_TOO_LARGE, "a total of the tallies would be more than 4,294,967,295") \
     ROW(32, OUT_OF_FORM, "the record is out of form, or made for a library with another layout")
 
 enum { /* SORGHEMI_REFUSED_CELL_COUNT and so on */
@@ -244,6 +245,28 @@ typedef struct {
     size_t length;
 } sorghemi_plan_answer;
 
+/* What became of the guesses of a batch, or of many (R75): how many jobs there are, and how many of their guesses were
+ * started, are kept (the job is settled by it), are thrown away, and are pending: still out or stored, the job not settled. */
+typedef struct {
+    uint32_t jobs;
+    uint32_t started;
+    uint32_t kept;
+    uint32_t discarded;
+    uint32_t pending;
+} sorghemi_tally;
+
+/* A tally; zeros where it is refused. */
+typedef struct {
+    uint8_t refusal;
+    sorghemi_tally tally;
+} sorghemi_tally_answer;
+
+/* The kept share in whole thousandths. Where no guess was started there is none, and 0 stands there. */
+typedef struct {
+    bool present;
+    uint64_t thousandths;
+} sorghemi_share_answer;
+
 #ifdef __cplusplus
 extern "C" {
 #endif
@@ -262,6 +285,12 @@ sorghemi_job_answer sorghemi_ask_job(sorghemi_batch batch, size_t job);
 sorghemi_batch_answer sorghemi_ask_batch(sorghemi_batch batch);
 /* Copies the cells to the buffer's places from `at` on; all other places keep their values. */
 uint8_t sorghemi_copy_out(sorghemi_batch batch, int32_t *buffer, size_t size, size_t at);
+/* What became of the batch's guesses so far. Refused with 32 alone. */
+sorghemi_tally_answer sorghemi_ask_tally(sorghemi_batch batch);
+/* The tallies added up, one for each batch; none gives zeros. Refused with 23. */
+sorghemi_tally_answer sorghemi_total(const sorghemi_tally *tallies, size_t count);
+/* How many thousandths of the guesses started were kept, rounded down. */
+sorghemi_share_answer sorghemi_kept_share(sorghemi_tally tally);
 /* What a job of a kind 1 to 6 reports of the four values handed to it. Refused with 8. */
 sorghemi_outcome sorghemi_result(uint8_t kind, int32_t parameter, const int32_t *handed);
 /* Byte for byte what the program gaugebatch answers to the plan, at the buffer's beginning; the other bytes of the buffer
@@ -277,7 +306,7 @@ uint32_t sorghemi_layout(size_t place);
 /* The same list as this header has it: a version, then of each struct its size and the offsets of its fields. */
 #define SORGHEMI_AT(type, field) ((uint32_t)offsetof(type, field))
 static const uint32_t sorghemi_header_layout[] = {
-    2,
+    3,
     sizeof(sorghemi_batch), SORGHEMI_AT(sorghemi_batch, cell_count), SORGHEMI_AT(sorghemi_batch, job_count),
     SORGHEMI_AT(sorghemi_batch, sealed), SORGHEMI_AT(sorghemi_batch, speculating), SORGHEMI_AT(sorghemi_batch, cells),
     SORGHEMI_AT(sorghemi_batch, jobs), SORGHEMI_AT(sorghemi_batch, runs), SORGHEMI_AT(sorghemi_batch, committed),
@@ -308,6 +337,11 @@ static const uint32_t sorghemi_header_layout[] = {
     sizeof(sorghemi_outcome), SORGHEMI_AT(sorghemi_outcome, refusal), SORGHEMI_AT(sorghemi_outcome, values),
     SORGHEMI_AT(sorghemi_outcome, wrote),
     sizeof(sorghemi_plan_answer), SORGHEMI_AT(sorghemi_plan_answer, refusal), SORGHEMI_AT(sorghemi_plan_answer, length),
+    sizeof(sorghemi_tally), SORGHEMI_AT(sorghemi_tally, jobs), SORGHEMI_AT(sorghemi_tally, started),
+    SORGHEMI_AT(sorghemi_tally, kept), SORGHEMI_AT(sorghemi_tally, discarded), SORGHEMI_AT(sorghemi_tally, pending),
+    sizeof(sorghemi_tally_answer), SORGHEMI_AT(sorghemi_tally_answer, refusal), SORGHEMI_AT(sorghemi_tally_answer, tally),
+    sizeof(sorghemi_share_answer), SORGHEMI_AT(sorghemi_share_answer, present),
+    SORGHEMI_AT(sorghemi_share_answer, thousandths),
 };
 #undef SORGHEMI_AT
 
@@ -376,6 +410,12 @@ static inline sorghemi_job_answer sorghemi_batch_ask_job(const sorghemi_batch *b
 static inline sorghemi_batch_answer sorghemi_batch_ask_batch(const sorghemi_batch *batch)
 {
     return sorghemi_ask_batch(*batch);
+}
+
+/* Asks what became of the record's guesses so far. */
+static inline sorghemi_tally_answer sorghemi_batch_ask_tally(const sorghemi_batch *batch)
+{
+    return sorghemi_ask_tally(*batch);
 }
 
 /* Copies the record's cells to the buffer's places from `at` on. */

@@ -5,6 +5,7 @@ use crate::layout;
 use crate::numbers::{Committed, Phase, Step, Validity};
 use crate::raw::{self, Record};
 use crate::refusal::Refusal;
+use crate::tally::Tally;
 
 /// A step worth taking next.
 #[derive(Clone, Copy, Debug, PartialEq, Eq)]
@@ -268,6 +269,13 @@ impl Batch {
     /// Whether the batch is sealed and every job settled (R8).
     pub fn finished(&self) -> bool {
         self.progress().expect(IN_FORM).finished
+    }
+
+    /// How many jobs the batch has, and what became of their guesses so far (R75). It may be asked at any time.
+    pub fn tally(&self) -> Tally {
+        let answer = unsafe { raw::sorghemi_ask_tally(self.record) };
+        Refusal::check(answer.refusal).expect(IN_FORM);
+        answer.tally
     }
 
     /// Copies the cells to the buffer's places from `at` on; all other places keep their values.

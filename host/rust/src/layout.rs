@@ -4,6 +4,7 @@
 use crate::job::{Job, Report};
 use crate::raw::*;
 use crate::refusal::Refusal;
+use crate::tally::Tally;
 use std::mem::{offset_of, size_of};
 use std::sync::OnceLock;
 
@@ -15,7 +16,7 @@ macro_rules! places {
 
 /// The list as this crate has it: a version, then of each struct its size and the offsets of its fields, in bytes.
 pub fn wrapper_layout() -> Vec<u32> {
-    let mut list = vec![2];
+    let mut list = vec![3];
     places! { list:
         Record { cell_count, job_count, sealed, speculating, cells, jobs, runs, committed, running, phase }
         Run { handed, reported, wrote, sources, bypassed }
@@ -32,6 +33,9 @@ pub fn wrapper_layout() -> Vec<u32> {
         BatchAnswer { refusal, cell_count, job_count, sealed, speculating, finished }
         Outcome { refusal, values, wrote }
         PlanAnswer { refusal, length }
+        Tally { jobs, started, kept, discarded, pending }
+        TallyAnswer { refusal, tally }
+        ShareAnswer { present, thousandths }
     }
     list
 }
@@ -58,6 +62,11 @@ pub(crate) fn check() -> Result<(), Refusal> {
     } else {
         Err(Refusal::OUT_OF_FORM)
     }
+}
+
+/// The same for a call that has no refusal to give.
+pub(crate) fn require() {
+    check().expect("the library that was linked has this layout");
 }
 
 #[cfg(test)]

@@ -58,6 +58,7 @@ mod plan;
 pub mod raw;
 mod refusal;
 mod show;
+mod tally;
 
 pub use batch::{Batch, Choice, JobState, Progress};
 pub use job::{Job, Report};
@@ -66,6 +67,7 @@ pub use numbers::{Committed, Kind, Mode, Phase, Step, Validity};
 pub use plan::{answer, LONGEST_ANSWER};
 pub use raw::{Access, JobSet, Record, Run};
 pub use refusal::Refusal;
+pub use tally::Tally;
 
 /// The example on the project's first page, tried with the others.
 #[cfg(doctest)]

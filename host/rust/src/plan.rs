@@ -51,7 +51,7 @@ pub const LONGEST_ANSWER: usize = 334_861;
 ///
 /// If the program was linked with a library of another layout.
 pub fn answer(plan: &[u8]) -> Vec<u8> {
-    layout::check().expect("the library that was linked has this layout");
+    layout::require();
     let mut buffer = vec![0; LONGEST_ANSWER];
     // SAFETY: both pointers are valid for their lengths, and the buffer is this call's own.
     let answer = unsafe { raw::sorghemi_answer_plan(plan.as_ptr(), plan.len(), buffer.as_mut_ptr(), buffer.len()) };

@@ -1,6 +1,7 @@
 //! The library's structs and functions, as host/c/sorghemi.h has them for C. `layout` checks the structs against the library's own.
 
 use crate::job::{Job, Report};
+use crate::tally::Tally;
 
 /// One access of a job: a cell by its number, and its mode: 0 read, 1 write, 2 maybe-write.
 #[repr(C)]
@@ -161,6 +162,24 @@ pub struct PlanAnswer {
     pub length: usize,
 }
 
+/// A tally; zeros where it is refused.
+#[repr(C)]
+#[derive(Clone, Copy, Debug, PartialEq, Eq)]
+#[allow(missing_docs)]
+pub struct TallyAnswer {
+    pub refusal: u8,
+    pub tally: Tally,
+}
+
+/// The kept share in whole thousandths. Where no guess was started there is none, and 0 stands there.
+#[repr(C)]
+#[derive(Clone, Copy, Debug, PartialEq, Eq)]
+#[allow(missing_docs)]
+pub struct ShareAnswer {
+    pub present: bool,
+    pub thousandths: u64,
+}
+
 // Each is proved, for every record and every number, to answer what the engine's definitions say. A caller owes valid pointers
 // and lengths, and nothing else.
 #[allow(missing_docs)]
@@ -177,5 +196,8 @@ extern "C" {
     pub fn sorghemi_copy_out(batch: Record, buffer: *mut i32, size: usize, at: usize) -> u8;
     pub fn sorghemi_result(kind: u8, parameter: i32, handed: *const [i32; 4]) -> Outcome;
     pub fn sorghemi_answer_plan(plan: *const u8, length: usize, buffer: *mut u8, size: usize) -> PlanAnswer;
+    pub fn sorghemi_ask_tally(batch: Record) -> TallyAnswer;
+    pub fn sorghemi_total(tallies: *const Tally, count: usize) -> TallyAnswer;
+    pub fn sorghemi_kept_share(tally: Tally) -> ShareAnswer;
     pub fn sorghemi_layout(place: usize) -> u32;
 }
