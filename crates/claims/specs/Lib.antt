@@ -5,3 +5,4 @@ pub mod Demand3
 pub mod StepCount
 pub mod SameEnd
 pub mod Chooser
+pub mod Tallies

@@ -1,4 +1,4 @@
--- Laws of folds, maxima and columns.
+-- Laws of folds, maxima, counts and columns.
 use Prim.Native.Nat.{ℕ, zero, suc, _+_, _-_, _<_, _≤_, max, min}
 use native.Mathlib.Omega.{arith}
 use native.Mathlib.Numerals.{add-one}
@@ -13,7 +13,7 @@ use lib.Seq.{set-at, getD-at, drop-at, drop-cons, drop-set-lt, getD-set-same, ge
 use borrow.Author.Tests.{eqb-true, eqb-false}
 use Rattle.laws.specs.Search.{anyBelow}
 use Rattle.laws.specs.SearchLaws.{if-or}
-use Rattle.laws.specs.Fold.{foldBelow, maxBelow, flag, upTo, column}
+use Rattle.laws.specs.Fold.{foldBelow, maxBelow, flag, countBelow, upTo, column}
 
 pub fold-none : {A : Type 0} (f : ℕ → A → A) (a : A) → foldBelow 0 f a ≡ a
 unfolding foldBelow
@@ -61,6 +61,34 @@ max-flags (suc n) p = rw (max-flags n p) (cases (p n) (anyBelow n p))
     cases true false = refl
     cases false true = refl
     cases false false = refl
+
+-- A test as a number is at most 1.
+pub flag-limit : (t : Bool) → flag t ≤ 1
+flag-limit true = omega arith
+flag-limit false = omega arith
+
+pub count-none : (p : ℕ → Bool) → countBelow 0 p ≡ 0
+unfolding countBelow
+count-none p = refl
+
+pub count-more : (n : ℕ) (p : ℕ → Bool) → countBelow (n + 1) p ≡ countBelow n p + flag (p n)
+unfolding countBelow
+count-more n p = rw add-one (omega arith)
+
+pub count-limit : (n : ℕ) (p : ℕ → Bool) → countBelow n p ≤ n
+unfolding countBelow
+count-limit zero p = omega arith
+count-limit (suc n) p = omega (arith, flag-limit (p n), count-limit n p)
+
+-- Where each number that satisfies p satisfies just one of three tests, and each other number none of them, the three counts
+-- together are p's.
+pub count-parts : (n : ℕ) (p q r s : ℕ → Bool)
+    → ((i : ℕ) → i < n → flag (p i) ≡ flag (q i) + flag (r i) + flag (s i))
+    → countBelow n p ≡ countBelow n q + countBelow n r + countBelow n s
+unfolding countBelow
+count-parts zero p q r s h = refl
+count-parts (suc n) p q r s h =
+    omega (arith, h n (omega arith), count-parts n p q r s (λ i l. h i (omega arith)))
 
 pub length-upTo : {A : Type 0} (n : ℕ) (f : ℕ → A) → length (upTo n f) ≡ n
 unfolding upTo

@@ -11,6 +11,7 @@ use lib.ListN.{length, getD}
 use borrow.Author.Tests.{ne-eqb, le-ltb}
 use Rattle.laws.specs.SearchLaws.{any-absent}
 use Rattle.laws.specs.Fold.{flag}
+use Rattle.laws.specs.FoldLaws.{flag-limit}
 use Rattle.dependence.specs.declared.Job.{Job}
 use Rattle.dependence.specs.Job.{jobAt}
 use Rattle.dependence.specs.Ready.{isCommitted}
@@ -164,11 +165,7 @@ module _ {job : Job} where
 
 -- The record is in form.
 
--- A test as a number is at most 1, and read back it is the test.
-flag-limit : (t : Bool) → flag t ≤ 1
-flag-limit true = omega arith
-flag-limit false = omega arith
-
+-- A test as a number, read back, is the test.
 flag-test : (t : Bool) → not (eqb (flag t) 0) ≡ t
 flag-test true = refl
 flag-test false = refl

@@ -22,3 +22,4 @@ pub mod StepCount
 pub mod SameJob
 pub mod SameEnd
 pub mod Chooser
+pub mod Tallies

@@ -1,0 +1,6 @@
+pub mod Tally
+pub mod TallyLaws
+pub mod Total
+pub mod TotalLaws
+pub mod Share
+pub mod ShareLaws
