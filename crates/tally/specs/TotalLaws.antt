@@ -1,11 +1,12 @@
 -- Laws of the total: adding one tally after the other leads to it, in any order, and it is in balance where each tally is.
-use Prim.Native.Nat.{ℕ, _+_, _≤_, max}
+use Prim.Native.Nat.{ℕ, _+_, _-_, _≤_, max}
 use native.Mathlib.Omega.{arith}
 use native.Mathlib.Nat.{lt-of-lt-of-le}
 use mathlib.Core.Bool.{Bool, true, false}
 use mathlib.Core.List.{List, [], _∷_, _++_}
 use mathlib.Core.Path.{_≡_, refl, sym, ap, _∙_}
-use borrow.Author.Tests.{ltb-true, ltb-false, lt-ltb}
+use lib.Dec.{ltb}
+use borrow.Author.Tests.{ltb-true, ltb-false, lt-ltb, le-ltb}
 use Rattle.laws.specs.SearchLaws.{if-or}
 use Rattle.tally.specs.declared.Tally.{Tally}
 use Rattle.tally.specs.declared.TallyAnswer.{TallyAnswer}
@@ -21,6 +22,40 @@ fitted-over t e = rw e
 pub fitted-not : (t : Tally) → isOver t ≡ false → fitted t ≡ given t
 unfolding fitted
 fitted-not t e = rw e
+
+-- Whether a sum of two numbers does not fit, asked without adding.
+pub sum-over : (a b : ℕ) → a ≤ most → ltb (most - a) b ≡ ltb most (a + b)
+sum-over a b h =
+    if-or (ltb (most - a) b)
+    (λ over. over ∙ sym (lt-ltb most (a + b) (omega (arith, ltb-true (most - a) b over))))
+    (λ fits. fits ∙ sym (le-ltb most (a + b) (omega (arith, ltb-false (most - a) b fits))))
+
+module _ (t : Tally) where
+  -- A tally is over where one of its numbers is; and where four of them fit, it hangs on the fifth.
+
+  pub over-by : (n : ℕ) → n ≤ largest t → ltb most n ≡ true → isOver t ≡ true
+  over-by n h e = lt-ltb most (largest t) (lt-of-lt-of-le (ltb-true most n e) h)
+
+  pub over-last : ltb most (t .jobs) ≡ false → ltb most (t .started) ≡ false → ltb most (t .kept) ≡ false
+      → ltb most (t .discarded) ≡ false → isOver t ≡ ltb most (t .pending)
+  over-last jobs started kept discarded =
+      if-or (ltb most (t .pending))
+      (λ over. over-by (t .pending) (omega arith) over ∙ sym over)
+      (λ fits.
+      le-ltb most (largest t)
+      (omega (
+        arith,
+        ltb-false most (t .jobs) jobs,
+        ltb-false most (t .started) started,
+        ltb-false most (t .kept) kept,
+        ltb-false most (t .discarded) discarded,
+        ltb-false most (t .pending) fits,
+      ))
+      ∙ sym fits)
+
+  -- Where it is not over, each of its numbers fits.
+  pub not-over : isOver t ≡ false → largest t ≤ most
+  not-over e = ltb-false most (largest t) e
 
 -- Two tallies with the same numbers are the same.
 same-tally : (a b : Tally) → a .jobs ≡ b .jobs → a .started ≡ b .started → a .kept ≡ b .kept → a .discarded ≡ b .discarded
@@ -76,8 +111,7 @@ largest-more : (s t : Tally) → largest s ≤ largest (sumOfTwo s t)
 largest-more s t = larger (omega arith) (larger (omega arith) (larger (omega arith) (larger (omega arith) (omega arith))))
 
 over-more : (s t : Tally) → isOver s ≡ true → isOver (sumOfTwo s t) ≡ true
-over-more s t e =
-    lt-ltb most (largest (sumOfTwo s t)) (lt-of-lt-of-le (ltb-true most (largest s) e) (largest-more s t))
+over-more s t e = over-by (sumOfTwo s t) (largest s) (largest-more s t) e
 
 -- So a sum so far is over only where the whole sum is.
 fitted-from : (s : Tally) (tallies : List Tally) → totalFrom (fitted s) tallies ≡ fitted (sumOfTwo s (sumOf tallies))

@@ -1,5 +1,8 @@
 //! Guesses over a month: what became of a batch's speculative runs, and of those of many batches together.
 
+ghost use mathlib.Core.Path.{_≡_};
+ghost use Rattle.tally.specs.Tally.{noTally, refused};
+
 mod count;
 mod kept_share;
 mod total;
@@ -26,4 +29,29 @@ pub struct TallyAnswer {
 pub enum Share {
     Thousandths(u64),
     Absent,
+}
+
+impl Tally {
+    /// The tally of no jobs.
+    fn none() -> Tally
+        ensures { λ r. ⌜ r ≡ noTally ⌝ }
+    {
+        Tally {
+            jobs: 0,
+            started: 0,
+            kept: 0,
+            discarded: 0,
+            pending: 0,
+        }
+    }
+}
+
+impl TallyAnswer {
+    /// The answer of a refused call.
+    fn refused(refusal: u8) -> TallyAnswer
+        ensures { λ r. ⌜ r ≡ refused refusal ⌝ }
+    {
+        let tally = Tally::none();
+        TallyAnswer { refusal, tally }
+    }
 }
