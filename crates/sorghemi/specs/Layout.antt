@@ -49,9 +49,19 @@ outcome = 24 ∷ 0 ∷ 4 ∷ 20 ∷ []
 abbrev planAnswer : List ℕ
 planAnswer = 16 ∷ 0 ∷ 8 ∷ []
 
+abbrev tally : List ℕ
+tally = 20 ∷ 0 ∷ 4 ∷ 8 ∷ 12 ∷ 16 ∷ []
+
+abbrev tallyAnswer : List ℕ
+tallyAnswer = 24 ∷ 0 ∷ 4 ∷ []
+
+abbrev shareAnswer : List ℕ
+shareAnswer = 16 ∷ 0 ∷ 8 ∷ []
+
 abbrev pub layout : List ℕ
 layout =
-    2
+    3
     ∷ batch ++ run ++ jobSet ++ job ++ access
     ++ report ++ handed ++ started ++ answer
     ++ choice ++ cellAnswer ++ jobAnswer ++ batchAnswer ++ outcome ++ planAnswer
+    ++ tally ++ tallyAnswer ++ shareAnswer

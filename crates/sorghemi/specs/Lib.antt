@@ -2,3 +2,4 @@ pub mod Step
 pub mod Plan
 pub mod PlanLaws
 pub mod Layout
+pub mod Share

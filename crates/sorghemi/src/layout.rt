@@ -5,9 +5,9 @@ ghost use lib.ListN.{getD};
 ghost use Rattle.sorghemi.specs.Layout.{layout};
 
 /// The version of the list, then of each struct its size and the offsets of its fields in their order.
-const NUMBERS: [u32; 74] = [
+const NUMBERS: [u32; 86] = [
     // the version
-    2,
+    3,
     // Batch
     10376,
     0,
@@ -96,6 +96,21 @@ const NUMBERS: [u32; 74] = [
     16,
     0,
     8,
+    // Tally
+    20,
+    0,
+    4,
+    8,
+    12,
+    16,
+    // TallyAnswer
+    24,
+    0,
+    4,
+    // ShareAnswer
+    16,
+    0,
+    8,
 ];
 
 /// R95: the number at a place of the list that hosts compare their own with; 0 past its end.
@@ -104,7 +119,7 @@ pub extern "C" fn sorghemi_layout(place: usize) -> u32
     ensures { λ r. ⌜ r ≡ getD layout place 0 ⌝ }
 {
     let numbers = NUMBERS;
-    if place < 74 {
+    if place < 86 {
         return numbers[place];
     }
     0

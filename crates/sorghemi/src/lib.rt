@@ -8,6 +8,7 @@ mod plans;
 mod reading;
 mod result;
 mod step;
+mod tallies;
 
 /// What a worker reports: a value for each access, and 1 if the maybe-write cells were written, else 0.
 #[repr(C)]
@@ -28,4 +29,11 @@ pub struct Handed {
 pub struct PlanAnswer {
     pub refusal: u8,
     pub length: usize,
+}
+
+/// What asking for the kept share tells: whether there is one, and its whole thousandths, 0 where there is none.
+#[repr(C)]
+pub struct ShareAnswer {
+    pub present: bool,
+    pub thousandths: u64,
 }

@@ -1,11 +1,13 @@
 -- Laws of the total: adding one tally after the other leads to it, in any order, and it is in balance where each tally is.
-use Prim.Native.Nat.{ℕ, _+_, _-_, _≤_, max}
+use Prim.Native.Nat.{ℕ, suc, _+_, _-_, _<_, _≤_, max}
 use native.Mathlib.Omega.{arith}
 use native.Mathlib.Nat.{lt-of-lt-of-le}
 use mathlib.Core.Bool.{Bool, true, false}
 use mathlib.Core.List.{List, [], _∷_, _++_}
 use mathlib.Core.Path.{_≡_, refl, sym, ap, _∙_}
 use lib.Dec.{ltb}
+use lib.ListN.{length, getD, drop, drop-of-length-le}
+use lib.Seq.{drop-cons}
 use borrow.Author.Tests.{ltb-true, ltb-false, lt-ltb, le-ltb}
 use Rattle.laws.specs.SearchLaws.{if-or}
 use Rattle.tally.specs.declared.Tally.{Tally}
@@ -97,6 +99,15 @@ total-exchanged front s t back = ap fitted (exchanged front)
 unfoldable pub totalFrom : TallyAnswer → List Tally → TallyAnswer
 totalFrom total [] = total
 totalFrom total (tally ∷ tallies) = totalFrom (addedTo total tally) tallies
+
+pub total-next : (total : TallyAnswer) (tallies : List Tally) (i : ℕ) → i < length tallies
+    → totalFrom total (drop i tallies) ≡ totalFrom (addedTo total (getD tallies i noTally)) (drop (suc i) tallies)
+unfolding totalFrom
+total-next total tallies i h = rw (drop-cons tallies i noTally h)
+
+pub total-end : (total : TallyAnswer) (tallies : List Tally) (i : ℕ) → length tallies ≤ i → totalFrom total (drop i tallies) ≡ total
+unfolding totalFrom
+total-end total tallies i h = rw (drop-of-length-le tallies h)
 
 stays-refused : (tallies : List Tally) → totalFrom (refused 23) tallies ≡ refused 23
 unfolding totalFrom
