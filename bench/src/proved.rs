@@ -3,11 +3,12 @@
 //! choosing and asking take a copy of the record.
 
 use sorghemi::raw::{
-    sorghemi_answer_plan, sorghemi_ask_batch, sorghemi_ask_cell, sorghemi_ask_job, sorghemi_choose,
-    sorghemi_copy_out, sorghemi_insert, sorghemi_open, sorghemi_result, sorghemi_seal,
-    sorghemi_step, sorghemi_step_by_value, Access, Answer,
+    sorghemi_answer_plan, sorghemi_ask_batch, sorghemi_ask_cell, sorghemi_ask_job,
+    sorghemi_ask_tally, sorghemi_choose, sorghemi_copy_out, sorghemi_insert, sorghemi_kept_share,
+    sorghemi_open, sorghemi_result, sorghemi_seal, sorghemi_step, sorghemi_step_by_value,
+    sorghemi_total, Access, Answer,
 };
-use sorghemi::{Record, Report};
+use sorghemi::{Record, Report, Tally};
 
 use crate::batch::{Batch, Job};
 use crate::drive::{prepare, Unwatched};
@@ -34,7 +35,7 @@ pub fn result(job: &Job, handed: [i32; 4]) -> Option<([i32; 4], u8)> {
 }
 
 /// The stack that the library's other calls touch, on the sealed batch and on a plan.
-pub fn other_stacks(batch: &Batch, plan: &str) -> [(&'static str, usize); 7] {
+pub fn other_stacks(batch: &Batch, plan: &str) -> [(&'static str, usize); 10] {
     let Lent(record) = prepare(batch, &mut Unwatched);
     let job = &batch.jobs[0];
     let heights = &batch.heights;
@@ -48,6 +49,10 @@ pub fn other_stacks(batch: &Batch, plan: &str) -> [(&'static str, usize); 7] {
     let ask_cell = stack::of(|| unsafe { sorghemi_ask_cell(record, 0) });
     let ask_job = stack::of(|| unsafe { sorghemi_ask_job(record, 0) });
     let ask_batch = stack::of(|| unsafe { sorghemi_ask_batch(record) });
+    let tallies = [Tally::default(); 31];
+    let ask_tally = stack::of(|| unsafe { sorghemi_ask_tally(record) });
+    let total = stack::of(|| unsafe { sorghemi_total(tallies.as_ptr(), tallies.len()) });
+    let kept_share = stack::of(|| unsafe { sorghemi_kept_share(tallies[0]) });
     let copy_out = stack::of(|| unsafe { sorghemi_copy_out(record, to, places, 0) });
     let answer = stack::of(|| unsafe { sorghemi_answer_plan(text, length, answer, size) });
     [
@@ -56,6 +61,9 @@ pub fn other_stacks(batch: &Batch, plan: &str) -> [(&'static str, usize); 7] {
         ("ask job", ask_job),
         ("ask batch", ask_batch),
         ("copy out", copy_out),
+        ("ask tally", ask_tally),
+        ("total", total),
+        ("kept share", kept_share),
         ("result", stack::of(|| result(job, [0; 4]))),
         ("answer", answer),
     ]

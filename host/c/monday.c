@@ -1,4 +1,5 @@
-/* Monday's batch, run by a host in C: a spike test that finds nothing, and the shift behind it run as a guess and kept. */
+/* Monday's batch, run by a host in C: a spike test that finds nothing, and the shift behind it run as a guess and kept.
+ * At the end the desk's numbers: what became of the guesses, on this morning and on a week of such mornings. */
 #include "sorghemi.h"
 
 #include <inttypes.h>
@@ -54,6 +55,29 @@ static void print_end(const sorghemi_batch *batch)
     printf("cells: %" PRId32 " %" PRId32 "\n", copied[1], copied[2]);
 }
 
+static void print_tally(const char *of, sorghemi_tally tally)
+{
+    sorghemi_share_answer share = sorghemi_kept_share(tally);
+    printf("guesses of %s: %" PRIu32 " started, %" PRIu32 " kept, %" PRIu32 " thrown away, %" PRIu32 " out or stored; ", of,
+           tally.started, tally.kept, tally.discarded, tally.pending);
+    if (share.present) {
+        printf("%" PRIu64 " thousandths kept\n", share.thousandths);
+    } else {
+        printf("no share\n");
+    }
+}
+
+static void print_week(sorghemi_tally monday)
+{
+    const sorghemi_tally quiet = {.jobs = 2};
+    const sorghemi_tally fallen = {.jobs = 2, .started = 1, .discarded = 1};
+    const sorghemi_tally week[] = {monday, quiet, monday, fallen, quiet};
+    sorghemi_tally_answer total = sorghemi_total(week, sizeof week / sizeof *week);
+    expect_accepted("total", total.refusal);
+    print_tally("the week", total.tally);
+    print_tally("a quiet day", quiet);
+}
+
 int main(void)
 {
     const int32_t heights[] = {1500, 1480};
@@ -78,5 +102,10 @@ int main(void)
     step(&batch, SORGHEMI_STEP_REPORT_OWN, 0, work(&spike, &to_spike));
     step(&batch, SORGHEMI_STEP_COMMIT, 1, nothing);
     print_end(&batch);
+
+    sorghemi_tally_answer monday = sorghemi_batch_ask_tally(&batch);
+    expect_accepted("ask", monday.refusal);
+    print_tally("Monday", monday.tally);
+    print_week(monday.tally);
     return 0;
 }

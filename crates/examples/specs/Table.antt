@@ -1,5 +1,5 @@
--- The worked examples P1 to P9 as one table, shown by one theorem about the definitions.
--- The rows behind P9 are points of the same plans at which a call is refused, and a job of four accesses.
+-- The worked examples P1 to P9 and P11 as one table, shown by one theorem about the definitions.
+-- The rows behind P11 are points of the same plans at which a call is refused, and a job of four accesses.
 use Prim.Native.Nat.{ℕ, zero, suc}
 use mathlib.Core.Bool.{Bool, true, false}
 use mathlib.Core.List.{List, [], _∷_}
@@ -7,7 +7,7 @@ use mathlib.Core.Path.{_≡_, refl}
 use lib.IntN.{ℤ, pos, negsuc}
 use lib.ListN.{getD}
 use Rattle.laws.specs.Search.{anyBelow}
-use Rattle.laws.specs.Fold.{foldBelow}
+use Rattle.laws.specs.Fold.{foldBelow, countBelow}
 use Rattle.laws.specs.Refusal.{firstOf}
 use Rattle.laws.specs.Rows.{AllHold, end, _also_}
 use Rattle.dependence.specs.declared.Job.{Job}
@@ -25,6 +25,8 @@ use Rattle.engine.specs.Opening.{opened, withInserted, inserted, withSealed, se
 use Rattle.engine.specs.Steps.{withJobChanged, startedOwn, startedSpeculation, reportedOwn, reportedSpeculation, committedBy}
 use Rattle.engine.specs.Perform.{perform}
 use Rattle.engine.specs.Ask.{cellRefusal, askedCell, jobAskRefusal, shownJob, askedJob}
+use Rattle.tally.specs.declared.Tally.{Tally}
+use Rattle.tally.specs.Tally.{tallyBelow, given, tallied}
 use Rattle.examples.specs.Plan.{Line, insertion, sealing, step, ownReport, speculationReport, Plan, first, _then_}
 use Rattle.examples.specs.Plan.{answerTo, answersTo, answersIn, afterAll, final, settledIn}
 
@@ -42,6 +44,8 @@ pub data Example : Type 0 where
   height : Plan → ℕ → ℤ → Example
   -- after the plan: the job, and how its guess is judged
   judged : Plan → ℕ → ℕ → Example
+  -- after the plan: the tally
+  tally : Plan → Tally → Example
   -- after the plan: one line more, and the answer to it
   next : Plan → Line → ℕ → Example
 
@@ -52,6 +56,7 @@ Holds (answers plan list) = answersIn plan ≡ list
 Holds (settled plan j how mark) = settledIn (final plan) j ≡ record { how = how; mark = mark }
 Holds (height plan x value) = askedCell (final plan) x .height ≡ value
 Holds (judged plan j number) = askedJob (final plan) j .validity ≡ number
+Holds (tally plan numbers) = tallied (final plan) ≡ given numbers
 Holds (next plan line answer) = answerTo (final plan) line ≡ answer
 
 -- The kinds by their names.
@@ -181,6 +186,11 @@ planFourth mode = record {
 abbrev reportFourth : Line
 reportFourth = ownReport 0 (pos 1 ∷ pos 2 ∷ pos 3 ∷ pos 1450 ∷ []) 1
 
+-- Jobs; guesses started, kept, thrown away; the rest.
+abbrev numbers : ℕ → ℕ → ℕ → ℕ → ℕ → Tally
+numbers jobs started kept discarded pending =
+    record { jobs = jobs; started = started; kept = kept; discarded = discarded; pending = pending }
+
 -- Kind, p, the values handed, the values reported, the mark.
 abbrev pub table : List Example
 table =
@@ -218,6 +228,13 @@ table =
     ∷ judged plan9 2 3
     ∷ next plan9 (step 0 2) 15
     ∷ next plan9 (step 0 1) 0
+    -- P11 tallies: before a guess is started; while it is out, and stored; kept; both fallen, and one of them thrown away.
+    ∷ tally (first 2 plan8) (numbers 2 0 0 0 0)
+    ∷ tally (first 5 plan8) (numbers 2 1 0 0 1)
+    ∷ tally (first 6 plan8) (numbers 2 1 0 0 1)
+    ∷ tally plan8 (numbers 2 1 1 0 0)
+    ∷ tally plan9 (numbers 3 2 0 0 2)
+    ∷ tally (plan9 then step 0 1) (numbers 3 2 0 1 1)
     -- R45: no guess is started; it is out, and stored, and the job is not ready; the job is ready and the guess stands, and
     -- does so once the job is settled by it; it is thrown away.
     ∷ judged (first 4 plan8) 1 0
@@ -278,7 +295,7 @@ pub examples-hold : AllHold Holds table
 unfolding resultOf tableOf conflicts touches
     perform answersTo afterAll cellRefusal askedCell jobAskRefusal shownJob askedJob opened inserted sealedWith startedOwn startedSpeculation reportedOwn reportedSpeculation committedBy
     withInserted withSealed withJobChanged inForm jobOut jobRefusal firstOf isReady isInvalid invalidBelow validity
-    sourceBelow setOf writeBack bit withBit hasJob withJob reachesTo anyBelow foldBelow
+    sourceBelow setOf writeBack bit withBit hasJob withJob reachesTo anyBelow foldBelow tallied tallyBelow countBelow
 examples-hold =
     refl also refl  -- P1
     also refl also refl  -- P2
@@ -289,6 +306,7 @@ examples-hold =
     also refl also refl  -- P7
     also refl also refl also refl also refl also refl  -- P8
     also refl also refl also refl also refl also refl also refl also refl  -- P9
+    also refl also refl also refl also refl also refl also refl  -- P11
     also refl also refl also refl also refl also refl also refl  -- how a guess is judged
     also refl  -- 12
     also refl also refl  -- 13, start own

@@ -4,3 +4,4 @@ pub mod Total
 pub mod TotalLaws
 pub mod Share
 pub mod ShareLaws
+pub mod Examples
