@@ -27,6 +27,7 @@ use Rattle.engine.specs.Perform.{perform}
 use Rattle.engine.specs.Ask.{cellRefusal, askedCell, jobAskRefusal, shownJob, askedJob}
 use Rattle.tally.specs.declared.Tally.{Tally}
 use Rattle.tally.specs.Tally.{tallyBelow, given, tallied}
+use Rattle.tally.specs.Examples.{numbers}
 use Rattle.examples.specs.Plan.{Line, insertion, sealing, step, ownReport, speculationReport, Plan, first, _then_}
 use Rattle.examples.specs.Plan.{answerTo, answersTo, answersIn, afterAll, final, settledIn}
 
@@ -44,7 +45,7 @@ pub data Example : Type 0 where
   height : Plan → ℕ → ℤ → Example
   -- after the plan: the job, and how its guess is judged
   judged : Plan → ℕ → ℕ → Example
-  -- after the plan: the tally
+  -- after the plan: the tally, as jobs, guesses started, kept, thrown away, and the rest
   tally : Plan → Tally → Example
   -- after the plan: one line more, and the answer to it
   next : Plan → Line → ℕ → Example
@@ -185,11 +186,6 @@ planFourth mode = record {
 -- It reports a new height of cell 3, and others for the cells that it only reads.
 abbrev reportFourth : Line
 reportFourth = ownReport 0 (pos 1 ∷ pos 2 ∷ pos 3 ∷ pos 1450 ∷ []) 1
-
--- Jobs; guesses started, kept, thrown away; the rest.
-abbrev numbers : ℕ → ℕ → ℕ → ℕ → ℕ → Tally
-numbers jobs started kept discarded pending =
-    record { jobs = jobs; started = started; kept = kept; discarded = discarded; pending = pending }
 
 -- Kind, p, the values handed, the values reported, the mark.
 abbrev pub table : List Example

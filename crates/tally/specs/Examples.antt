@@ -22,7 +22,7 @@ Holds (totals tallies answer) = totalOf tallies ≡ answer
 Holds (share tally thousandths) = keptShare tally ≡ thousandths
 
 -- Jobs; guesses started, kept, thrown away; the rest.
-abbrev numbers : ℕ → ℕ → ℕ → ℕ → ℕ → Tally
+abbrev pub numbers : ℕ → ℕ → ℕ → ℕ → ℕ → Tally
 numbers jobs started kept discarded pending =
     record { jobs = jobs; started = started; kept = kept; discarded = discarded; pending = pending }
 

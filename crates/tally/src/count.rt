@@ -23,7 +23,7 @@ const DISCARDED: u8 = 3;
 
 /// A test as a number.
 fn one_if(test: bool) -> u32
-    ensures { λ r. ⌜ r ≡ flag test ⌝ }
+    ensures { λ r. ⌜ (r ≡ flag test) × (r ≤ 1) ⌝ }
 {
     if test {
         return 1;

@@ -2,8 +2,8 @@
 
 ghost use mathlib.Core.Path.{_≡_};
 ghost use lib.Dec.{ltb};
-ghost use Prim.Native.Nat.{_+_};
-ghost use Rattle.tally.specs.Total.{sumOfTwo, most, isOver, added, noTotal, addedTo};
+ghost use Prim.Native.Nat.{_+_, _≤_};
+ghost use Rattle.tally.specs.Total.{sumOfTwo, most, largest, isOver, added, noTotal, addedTo};
 use crate::Tally;
 use crate::TallyAnswer;
 
@@ -37,6 +37,20 @@ impl Tally {
         is_over(self.pending, other.pending)
     }
 
+    /// The five sums, which fit.
+    fn sum_with(self, other: Tally) -> Tally
+        requires { ⌜ largest (sumOfTwo self other) ≤ most ⌝ }
+        ensures { λ r. ⌜ r ≡ sumOfTwo self other ⌝ }
+    {
+        Tally {
+            jobs: self.jobs + other.jobs,
+            started: self.started + other.started,
+            kept: self.kept + other.kept,
+            discarded: self.discarded + other.discarded,
+            pending: self.pending + other.pending,
+        }
+    }
+
     /// R76: the two tallies added up. Refused with 23.
     pub fn add(self, other: Tally) -> TallyAnswer
         ensures { λ r. ⌜ r ≡ added self other ⌝ }
@@ -44,16 +58,8 @@ impl Tally {
         if self.is_over_with(other) {
             return TallyAnswer::refused(23);
         }
-        TallyAnswer {
-            refusal: 0,
-            tally: Tally {
-                jobs: self.jobs + other.jobs,
-                started: self.started + other.started,
-                kept: self.kept + other.kept,
-                discarded: self.discarded + other.discarded,
-                pending: self.pending + other.pending,
-            },
-        }
+        let tally = self.sum_with(other);
+        TallyAnswer { refusal: 0, tally }
     }
 }
 

@@ -1,9 +1,5 @@
 -- `Tally::with_job` meets its contract. Each number grows by at most 1, and there is room for that.
-use native.Mathlib.Omega.{arith}
 use borrow.Author.Needs.{needs}
-use Rattle.laws.specs.FoldLaws.{flag-limit}
-use Rattle.rules.specs.Snapshot.{isDiscarded}
-use Rattle.tally.specs.Tally.{wasStarted, isKept}
 use Rattle.tally.proofs.Tally.with_job.Statement.{statement}
 use Rattle.tally.proofs.Tally.with_job.Tie as tie
 
@@ -26,38 +22,26 @@ add-t9 : tie.Need-add-t9
 add-t9 c = search needs
 
 add-t10 : tie.Need-add-t10
-add-t10 c =
-    let o = c .before .before in
-    let s = o .before .before .before .before .before in
-    omega (arith, s .pre, o .before .before .before .before .one-if .ensures, flag-limit (wasStarted (s .args .phase)))
+add-t10 c = search needs
 
 add-t11 : tie.Need-add-t11
-add-t11 c =
-    let o = c .before .before .before in
-    let s = o .before .before .before .before .before in
-    omega (arith, s .pre, o .before .before .before .one-if2 .ensures, flag-limit (isKept (s .args .committed)))
+add-t11 c = search needs
 
 add-t12 : tie.Need-add-t12
-add-t12 c =
-    let o = c .before .before .before .before in
-    let s = o .before .before .before .before .before in
-    omega (arith, s .pre, o .before .before .one-if3 .ensures, flag-limit (isDiscarded (s .args .phase)))
+add-t12 c = search needs
 
 add-t13 : tie.Need-add-t13
-add-t13 c =
-    let o = c .before .before .before .before .before in
-    let s = o .before .before .before .before .before in
-    omega (arith, s .pre, o .one-if4 .ensures, flag-limit (o .before .is-pending .result))
+add-t13 c = search needs
 
 returns : tie.Need-returns
 returns c =
     let o = c .before .before .before .before .before in
     rw (
-      o .one-if4 .ensures,
+      o .one-if4 .ensures .0,
       o .before .is-pending .ensures,
-      o .before .before .one-if3 .ensures,
-      o .before .before .before .one-if2 .ensures,
-      o .before .before .before .before .one-if .ensures,
+      o .before .before .one-if3 .ensures .0,
+      o .before .before .before .one-if2 .ensures .0,
+      o .before .before .before .before .one-if .ensures .0,
     )
 
 pub with-job-spec : {M : Type 1} → statement M
