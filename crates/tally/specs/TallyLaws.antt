@@ -9,8 +9,6 @@ use Rattle.laws.specs.Fold.{flag, countBelow}
 use Rattle.laws.specs.FoldLaws.{count-more, count-limit, count-parts}
 use Rattle.engine.specs.declared.Batch.{Batch}
 use Rattle.engine.specs.Form.{inForm}
-use Rattle.tally.specs.declared.Tally.{Tally}
-use Rattle.tally.specs.declared.TallyAnswer.{TallyAnswer}
 use Rattle.tally.specs.Tally.{startedAt, keptAt, discardedAt, pendingAt, tallyBelow, tallyOf, withJob, Balanced}
 use Rattle.tally.specs.Tally.{noTally, given, refused, tallied}
 use Rattle.tally.specs.Total.{largest}

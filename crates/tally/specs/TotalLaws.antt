@@ -2,7 +2,7 @@
 use Prim.Native.Nat.{ℕ, suc, _+_, _-_, _<_, _≤_, max}
 use native.Mathlib.Omega.{arith}
 use native.Mathlib.Nat.{lt-of-lt-of-le}
-use mathlib.Core.Bool.{Bool, true, false}
+use mathlib.Core.Bool.{true, false}
 use mathlib.Core.List.{List, [], _∷_, _++_}
 use mathlib.Core.Path.{_≡_, refl, sym, ap, _∙_}
 use lib.Dec.{ltb}
@@ -13,7 +13,7 @@ use Rattle.laws.specs.SearchLaws.{if-or}
 use Rattle.tally.specs.declared.Tally.{Tally}
 use Rattle.tally.specs.declared.TallyAnswer.{TallyAnswer}
 use Rattle.tally.specs.Tally.{noTally, given, refused, Balanced}
-use Rattle.tally.specs.Total.{sumOfTwo, sumOf, most, largest, isOver, fitted, added, totalOf, noTotal, addedTo}
+use Rattle.tally.specs.Total.{sumOfTwo, sumOf, most, largest, isOver, fitted, totalOf, noTotal, addedTo}
 
 -- The two answers.
 

@@ -7,8 +7,7 @@ use Rattle.dependence.specs.declared.Job.{Job}
 use Rattle.rules.specs.Snapshot.{isDiscarded}
 use Rattle.engine.specs.declared.Run.{Run}
 use Rattle.engine.specs.declared.Batch.{Batch}
-use Rattle.tally.specs.declared.Tally.{Tally}
-use Rattle.tally.specs.Tally.{wasStarted, isKept, isPending, tallyOf, tallied, Balanced}
+use Rattle.tally.specs.Tally.{wasStarted, isKept, isPending, tallied, Balanced}
 use Rattle.tally.specs.TallyLaws.{tallied-in-form, tally-balanced}
 use Rattle.tally.specs.Total.{sumOf}
 use Rattle.tally.specs.TotalLaws.{sum-balanced, fitted-balanced}
