@@ -49,10 +49,15 @@ pub fn ignore_broken_pipes() {
     unsafe { signal(SIGPIPE, SIG_IGN) };
 }
 
-/// The plan on standard input: all that stands there, or the first 65,537 bytes.
+/// The plan on standard input.
 pub fn read_input() -> io::Result<Vec<u8>> {
+    read_plan(Descriptor(0))
+}
+
+/// A plan: all that stands there, or the first 65,537 bytes.
+pub fn read_plan(source: impl Read) -> io::Result<Vec<u8>> {
     let mut plan = Vec::new();
-    Descriptor(0).take(MOST).read_to_end(&mut plan)?;
+    source.take(MOST).read_to_end(&mut plan)?;
     Ok(plan)
 }
 

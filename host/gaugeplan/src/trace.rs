@@ -4,7 +4,7 @@
 use crate::dependence::{self, Dependences};
 use crate::plan::{self, Contradiction, Plan, Sound, StepLine};
 use crate::why::{self, Why};
-use sorghemi::{Batch, Committed, JobState, Phase, Refusal, Report, Step, Validity};
+use sorghemi::{Batch, Committed, JobState, Phase, Refusal, Report, Step, Tally, Validity};
 use std::fmt::Write;
 
 /// The whole run of a plan.
@@ -14,6 +14,8 @@ pub struct Trace {
     pub jobs: Vec<JobState>,
     /// The heights at the end.
     pub heights: Vec<i32>,
+    /// What became of the guesses.
+    pub tally: Tally,
     pub dependences: Dependences,
 }
 
@@ -92,7 +94,7 @@ pub fn of(sound: &Sound) -> Result<Trace, Contradiction> {
         events.push(Event { line, outcome });
     }
     let jobs = (0..plan.jobs.len()).map(|job| batch.job(job)).collect::<Result<Vec<JobState>, Refusal>>()?;
-    let trace = Trace { events, jobs, heights: batch.cells(), dependences };
+    let trace = Trace { events, jobs, heights: batch.cells(), tally: batch.tally(), dependences };
     if trace.answer().as_bytes() != sound.answer {
         return Err(Contradiction("the steps, tried one by one, were answered otherwise than the plan".to_owned()));
     }
