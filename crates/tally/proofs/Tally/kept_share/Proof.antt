@@ -1,4 +1,5 @@
 -- `Tally::kept_share` meets its contract.
+use native.Mathlib.Omega.{arith}
 use borrow.Author.Needs.{needs}
 use mathlib.Core.Path.{sym}
 use Rattle.tally.specs.Share.{shareOf}
@@ -9,7 +10,7 @@ use Rattle.tally.proofs.Tally.kept_share.Tie as tie
 -- no run was started
 returns : tie.Need-returns
 unfolding shareOf
-returns c = sym (share-absent _ (c .if1 .taken))
+returns c = sym (share-absent (c .before .before .args .self) (omega (arith, c .if1 .taken)))
 
 cast-t3 : tie.Need-cast-t3
 cast-t3 c = search needs
@@ -26,7 +27,9 @@ div-t6 c = search needs
 -- some were
 returns-2 : tie.Need-returns-2
 unfolding shareOf
-returns-2 c = sym (share-present _ (c .before .before .if1 .left))
+returns-2 c =
+    let t = c .before .before in
+    sym (share-present (t .before .before .args .self) (λ e. omega (arith, e, t .if1 .left)))
 
 pub kept-share-spec : {M : Type 1} → statement M
 kept-share-spec = tie.close (tie.spec returns cast-t3 mul-t4 cast-t5 div-t6 returns-2)
