@@ -10,6 +10,7 @@
 use std::collections::BTreeSet;
 
 use crate::kinds;
+use crate::tally::Tally;
 
 /// R3: the modes of an access.
 pub const READ: u32 = 0;
@@ -644,6 +645,22 @@ impl Batch {
             return Err(11);
         }
         Ok(self.judged(job as usize))
+    }
+
+    /// R75: each number counted over the jobs by itself.
+    pub fn tally(&self) -> Tally {
+        let mut tally = Tally::default();
+        for entry in &self.jobs {
+            let state = entry.guess.as_ref().map(|guess| guess.state);
+            let kept = matches!(entry.settled, Settled::ByGuess { .. });
+            let live = matches!(state, Some(GuessState::Out | GuessState::Stored(_)));
+            tally.jobs += 1;
+            tally.started += u32::from(state.is_some());
+            tally.kept += u32::from(kept);
+            tally.thrown_away += u32::from(state == Some(GuessState::ThrownAway));
+            tally.rest += u32::from(live && entry.settled == Settled::No);
+        }
+        tally
     }
 
     /// R74: the cells from that place of the buffer on; all other places keep what

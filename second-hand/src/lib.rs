@@ -5,9 +5,11 @@
 pub mod engine;
 pub mod frame;
 pub mod kinds;
+pub mod lists;
 pub mod plan;
 pub mod plans;
 pub mod record;
+pub mod tally;
 
 /// The whole output of the program for one whole input.
 pub fn answer(input: &[u8]) -> Vec<u8> {

@@ -43,6 +43,20 @@ impl Dice {
         low + (self.next() % (high - low + 1) as u64) as i64
     }
 
+    /// A number of 32 unsigned bits: 0, small, about the middle or the end of the
+    /// range, or any.
+    pub fn number(&mut self) -> u32 {
+        let most = i64::from(u32::MAX);
+        let number = match self.below(5) {
+            0 => 0,
+            1 => self.range(0, 300),
+            2 => self.range(most / 2 - 2, most / 2 + 3),
+            3 => self.range(most - 3, most),
+            _ => self.range(0, most),
+        };
+        number as u32
+    }
+
     pub fn percent(&mut self, chance: usize) -> bool {
         self.below(100) < chance
     }

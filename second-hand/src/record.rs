@@ -15,6 +15,7 @@
 use std::ops::Range;
 
 use crate::kinds;
+use crate::tally::Tally;
 
 const READ: u8 = 0;
 const WRITE: u8 = 1;
@@ -234,7 +235,7 @@ impl Record {
 
 impl Job {
     /// The accesses in use. Only for a job that is not refused with 4.
-    fn used(&self) -> &[(u8, u8)] {
+    pub(crate) fn used(&self) -> &[(u8, u8)] {
         &self.accesses[..usize::from(self.arity)]
     }
 
@@ -257,7 +258,7 @@ impl Job {
         not_read.fold(0, |set, &(cell, _)| set | 1 << cell)
     }
 
-    fn has_maybe_write(&self) -> bool {
+    pub(crate) fn has_maybe_write(&self) -> bool {
         self.used().iter().any(|access| access.1 == MAYBE)
     }
 
@@ -844,6 +845,27 @@ impl Record {
             speculating: self.speculating,
             finished: self.sealed == 1 && all_settled,
         }
+    }
+
+    /// R75: what became of the guesses, each number counted over the held jobs by
+    /// itself. R81: zeros where it is refused.
+    pub fn ask_tally(&self) -> (u8, Tally) {
+        if !self.in_form() {
+            return (32, Tally::default());
+        }
+        let rules = Rules::of(self);
+        let count = |is: &dyn Fn(usize) -> bool| self.held().filter(|&job| is(job)).count() as u32;
+        let tally = Tally {
+            jobs: count(&|_job| true),
+            started: count(&|job| self.phase[job] != NEVER_STARTED),
+            // R93: by how the job is settled alone, whatever the state of its guess.
+            kept: count(&|job| self.committed[job] == BY_GUESS),
+            thrown_away: count(&|job| self.phase[job] == THROWN_AWAY),
+            // R55: the guess of a settled job may still be stored. One that has
+            // fallen belongs here until it is thrown away.
+            rest: count(&|job| !rules.is_settled(job) && rules.has_live_guess(job)),
+        };
+        (0, tally)
     }
 
     /// R74: the cells from that place of the buffer on; all other places keep what

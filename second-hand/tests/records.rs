@@ -5,6 +5,7 @@
 use second_hand::engine::{Access, Batch, GuessState, Report, Settled};
 use second_hand::kinds;
 use second_hand::record::{BatchAnswer, Job, JobAnswer, Record, Run};
+use second_hand::tally::Tally;
 
 const READ: u8 = 0;
 const WRITE: u8 = 1;
@@ -375,6 +376,7 @@ impl Pair {
             finished: self.batch.finished(),
         };
         assert_eq!(self.record.ask_batch(), asked);
+        assert_eq!(self.record.ask_tally(), (0, self.batch.tally()));
         for cell in 0..cells + 2 {
             let (refusal, height) = self.record.ask_cell(cell as usize);
             let answer = if refusal == 0 {
@@ -654,6 +656,7 @@ fn out_of_form(record: &Record) {
             ..BatchAnswer::default()
         }
     );
+    assert_eq!(record.ask_tally(), (32, Tally::default()));
     let mut buffer = [3; 70];
     assert_eq!(record.copy_out(&mut buffer, 0), 32);
     assert_eq!(record.copy_out(&mut buffer, 70), 32);
@@ -666,6 +669,7 @@ fn limit(record: &Record, last: impl Fn(&mut Record), past: impl Fn(&mut Record)
     last(&mut changed);
     assert!(changed.in_form());
     assert_eq!(changed.ask_batch().refusal, 0);
+    assert_eq!(changed.ask_tally().0, 0);
     let mut changed = record.clone();
     past(&mut changed);
     out_of_form(&changed);
@@ -887,6 +891,7 @@ fn places_not_in_use() {
         assert!(other.in_form());
         assert_eq!(other.choose(), record.choose());
         assert_eq!(other.ask_batch(), record.ask_batch());
+        assert_eq!(other.ask_tally(), record.ask_tally());
         assert_eq!(other.ask_job(jobs).refusal, 11);
         assert_eq!(other.ask_cell(cells), (5, 0));
         for job in 0..jobs + 1 {

@@ -7,10 +7,10 @@ mod setting;
 mod theirs;
 
 use setting::setting;
-use sorghemi::raw::{sorghemi_step_by_value, JobSet, Run};
+use sorghemi::raw::{sorghemi_step_by_value, JobSet, Run, TallyAnswer};
 use sorghemi::{Batch, Job, Mode, Record, Report, Step};
 use std::collections::BTreeMap;
-use theirs::Both;
+use theirs::{read_tally, Both};
 
 /// A small generator of random numbers, the same in every run.
 pub struct Random(u64);
@@ -211,13 +211,17 @@ const FOUR: [&str; 9] = [
 /// How a guess is judged, by R45's numbers. Each has to come up.
 const JUDGED: [&str; 4] = ["no guess out or stored", "not yet to be judged", "stands", "fallen"];
 
-/// How often each entry gave each answer, what was met of jobs with four accesses, and how guesses were judged: of jobs that
-/// are not settled, and of settled ones.
+/// What may be met of the tally of a record that somebody wrote into, and that is still in form. Each has to come up.
+const TALLIES: [&str; 3] = ["out of balance", "in balance, a guess started", "in balance, none started"];
+
+/// How often each entry gave each answer, what was met of jobs with four accesses, how guesses were judged: of jobs that are
+/// not settled, and of settled ones; and what was met of tallies.
 #[derive(Default)]
 struct Met {
     answers: BTreeMap<(&'static str, u8), u64>,
     four: [u64; FOUR.len()],
     judged: [[u64; 2]; JUDGED.len()],
+    tallies: [u64; TALLIES.len()],
 }
 
 impl Met {
@@ -231,6 +235,21 @@ impl Met {
         self.answer("ask job", answer.refusal);
         if answer.refusal == 0 {
             self.judged[answer.validity as usize][(answer.committed != 0) as usize] += 1;
+        }
+    }
+
+    /// Asks both hands for the tally.
+    fn ask_tally(&mut self, both: &Both) -> TallyAnswer {
+        let answer = both.ask_tally();
+        self.answer("ask tally", answer.refusal);
+        answer
+    }
+
+    /// The tally of a record that somebody wrote into: what came up of TALLIES, by its place there.
+    fn made_up(&mut self, answer: TallyAnswer) {
+        if answer.refusal == 0 {
+            let balanced = read_tally(&answer.tally).in_balance();
+            self.tallies[if !balanced { 0 } else { 1 + (answer.tally.started == 0) as usize }] += 1;
         }
     }
 
@@ -276,17 +295,23 @@ impl Met {
         for (what, times) in JUDGED.iter().zip(self.judged) {
             println!("  {what}: {} and {}", times[0], times[1]);
         }
+        println!("Tallies of records in form that were written into:");
+        for (what, times) in TALLIES.iter().zip(self.tallies) {
+            println!("  {what}: {times}");
+        }
     }
 }
 
-/// Calls every entry on the record, each on a copy of its own, and then some steps one after the other.
-fn try_every_entry(record: &Record, random: &mut Random, met: &mut Met) {
+/// Calls every entry on the record, each on a copy of its own, and then some steps one after the other. Gives back what asking
+/// the record's tally answered.
+fn try_every_entry(record: &Record, random: &mut Random, met: &mut Met) -> TallyAnswer {
     let cells = record.cell_count.clamp(1, 64) as usize;
     let jobs = record.job_count.clamp(1, 128) as usize;
     let mut both = Both::of(record);
     met.answer("choose", both.choose());
     let held = if both.ask_batch() == 0 { record.job_count as usize } else { 0 };
     met.answer("ask batch", both.ask_batch());
+    let tally = met.ask_tally(&both);
     met.answer("ask cell", both.ask_cell(random.around(cells)));
     met.ask_job(&both, random.around(jobs));
     met.answer("copy out", both.copy_out(random.around(cells + 4), random.around(4)));
@@ -301,10 +326,12 @@ fn try_every_entry(record: &Record, random: &mut Random, met: &mut Met) {
         let job = job_for(number, &both.ours, random);
         met.step("a further step", &mut both, number, job, random.report());
     }
+    met.ask_tally(&both);
     // Every job, on the record and on what the steps have left of it.
     for both in [Both::of(record), both] {
         (0..held).for_each(|job| met.ask_job(&both, job));
     }
+    tally
 }
 
 /// How many records, and the seed.
@@ -321,19 +348,24 @@ fn damaged_records_are_refused_or_answered_soundly() {
     for n in 0..count {
         if n % 4 == 0 {
             valid = valid_record(&mut random);
-            try_every_entry(&valid, &mut random, &mut met);
+            let whole = try_every_entry(&valid, &mut random, &mut met);
+            assert!(whole.refusal == 0 && read_tally(&whole.tally).in_balance(), "R177: {whole:?}");
         }
         let record = damaged(&valid, &mut random);
-        try_every_entry(&record, &mut random, &mut met);
+        let answer = try_every_entry(&record, &mut random, &mut met);
+        met.made_up(answer);
     }
     println!(
         "{count} damaged records of seed {seed}, and a quarter as many whole ones: every answer and record the second hand's."
     );
     met.print();
     let of = |entry, answer| met.answers.get(&(entry, answer)).copied().unwrap_or(0);
-    assert!(of("ask batch", 32) > count / 10 && of("ask batch", 0) > count / 10, "both sorts of records have to come up");
+    for entry in ["ask batch", "ask tally"] {
+        assert!(of(entry, 32) > count / 10 && of(entry, 0) > count / 10, "both sorts of records have to come up");
+    }
     assert!(met.four.iter().all(|&times| times > 0), "something never came up with four accesses: {:?}", met.four);
     assert!(met.judged.iter().all(|times| times[0] + times[1] > 0), "no guess was judged so: {:?}", met.judged);
+    assert!(met.tallies.iter().all(|&times| times > 0), "no tally was so: {:?}", met.tallies);
 }
 
 /// R93. A quarter as many as of damaged ones, for all of these are in form.
@@ -344,10 +376,13 @@ fn jobs_in_any_state_are_answered_soundly() {
     let mut met = Met::default();
     for _ in 0..count.div_ceil(4) {
         let valid = valid_record(&mut random);
-        try_every_entry(&any_states(&valid, &mut random), &mut random, &mut met);
+        let answer = try_every_entry(&any_states(&valid, &mut random), &mut random, &mut met);
+        met.made_up(answer);
     }
     println!("{} records of seed {seed} with jobs in any state: every answer and record the second hand's.", count.div_ceil(4));
     met.print();
     assert_eq!(met.answers.get(&("ask batch", 32)), None, "all are in form");
+    assert_eq!(met.answers.get(&("ask tally", 32)), None, "all are in form");
     assert!(met.judged.iter().flatten().all(|&times| times > 0), "no guess was judged so: {:?}", met.judged);
+    assert!(met.tallies.iter().all(|&times| times > 0), "no tally was so: {:?}", met.tallies);
 }

@@ -1,12 +1,12 @@
 //! One record in two hands: each call is made on both, and what they answer and leave has to be the same.
 
-use second_hand::record;
+use second_hand::{record, tally};
 use sorghemi::raw::*;
-use sorghemi::{Job, Record, Report};
+use sorghemi::{Job, Record, Report, Tally};
 
 pub struct Both {
     pub ours: Record,
-    theirs: record::Record,
+    pub theirs: record::Record,
 }
 
 /// The library's record as the second hand reads it.
@@ -21,6 +21,12 @@ fn read_job(job: &Job) -> record::Job {
         arity: job.arity,
         accesses: job.accesses.map(|access| (access.cell, access.mode)),
     }
+}
+
+/// The library's tally with the second hand's names.
+pub fn read_tally(tally: &Tally) -> tally::Tally {
+    let Tally { jobs, started, kept, discarded: thrown_away, pending: rest } = *tally;
+    tally::Tally { jobs, started, kept, thrown_away, rest }
 }
 
 impl Both {
@@ -118,6 +124,14 @@ impl Both {
             (theirs.refusal, theirs.cell_count, theirs.job_count, theirs.sealed, theirs.speculating, theirs.finished)
         );
         ours.refusal
+    }
+
+    /// R70: the record handed in stays as it is.
+    pub fn ask_tally(&self) -> TallyAnswer {
+        let ours = unsafe { sorghemi_ask_tally(self.ours) };
+        assert_eq!((ours.refusal, read_tally(&ours.tally)), self.theirs.ask_tally(), "ask tally of {:?}", self.ours);
+        self.same_record("ask tally");
+        ours
     }
 
     pub fn copy_out(&self, size: usize, at: usize) -> u8 {
