@@ -5,7 +5,7 @@ use mathlib.Core.List.{List}
 use mathlib.Core.Path.{_≡_}
 use lib.Dec.{eqb}
 use lib.ListN.{getD}
-use Rattle.laws.specs.Fold.{flag, countBelow}
+use Rattle.laws.specs.Fold.{countBelow}
 use Rattle.dependence.specs.Ready.{isCommitted}
 use Rattle.rules.specs.Snapshot.{neverStarted, isDiscarded, isLive}
 use Rattle.engine.specs.declared.Batch.{Batch}
@@ -69,17 +69,6 @@ refused refusal = record { refusal = refusal; tally = noTally }
 
 unfoldable pub tallied : Batch → TallyAnswer
 tallied b = cond (inForm b) (given (tallyOf b)) (refused 32)
-
--- One job more, by its states.
-abbrev pub withJob : Tally → ℕ → ℕ → Tally
-withJob tally committed phase =
-    record {
-      jobs = tally .jobs + 1;
-      started = tally .started + flag (wasStarted phase);
-      kept = tally .kept + flag (isKept committed);
-      discarded = tally .discarded + flag (isDiscarded phase);
-      pending = tally .pending + flag (isPending committed phase);
-    }
 
 -- R177: a tally in balance.
 abbrev pub Balanced : Tally → Type 0

@@ -7,9 +7,12 @@ use mathlib.Core.Path.{_≡_, refl}
 use lib.ListN.{getD}
 use Rattle.laws.specs.Fold.{flag, countBelow}
 use Rattle.laws.specs.FoldLaws.{count-more, count-limit, count-parts}
+use Rattle.rules.specs.Snapshot.{isDiscarded}
 use Rattle.engine.specs.declared.Batch.{Batch}
 use Rattle.engine.specs.Form.{inForm}
-use Rattle.tally.specs.Tally.{startedAt, keptAt, discardedAt, pendingAt, tallyBelow, tallyOf, withJob, Balanced}
+use Rattle.tally.specs.declared.Tally.{Tally}
+use Rattle.tally.specs.Tally.{wasStarted, isKept, isPending, startedAt, keptAt, discardedAt, pendingAt}
+use Rattle.tally.specs.Tally.{tallyBelow, tallyOf, Balanced}
 use Rattle.tally.specs.Tally.{noTally, given, refused, tallied}
 use Rattle.tally.specs.Total.{largest}
 
@@ -22,6 +25,17 @@ tallied-in-form b e = rw e
 pub tallied-out : (b : Batch) → inForm b ≡ false → tallied b ≡ refused 32
 unfolding tallied
 tallied-out b e = rw e
+
+-- A tally with one job more, by the job's states.
+abbrev pub withJob : Tally → ℕ → ℕ → Tally
+withJob tally committed phase =
+    record {
+      jobs = tally .jobs + 1;
+      started = tally .started + flag (wasStarted phase);
+      kept = tally .kept + flag (isKept committed);
+      discarded = tally .discarded + flag (isDiscarded phase);
+      pending = tally .pending + flag (isPending committed phase);
+    }
 
 module _ (committed phase : List ℕ) where
   -- The pass over the jobs: none, one more, and no number larger than that of the jobs.

@@ -3,7 +3,8 @@
 ghost use mathlib.Core.Path.{_≡_};
 ghost use Prim.Native.Nat.{_<_, _≤_};
 ghost use Rattle.laws.specs.Fold.{flag};
-ghost use Rattle.tally.specs.Tally.{isPending, withJob, tallyBelow, refused, tallied};
+ghost use Rattle.tally.specs.Tally.{isPending, tallyBelow, tallied};
+ghost use Rattle.tally.specs.TallyLaws.{withJob};
 ghost use Rattle.tally.specs.Total.{largest, most};
 use crate::Tally;
 use crate::TallyAnswer;
