@@ -13,6 +13,10 @@ fn on(cell: u32, mode: u32) -> Access {
     Access { cell, mode }
 }
 
+fn report(values: [i32; 4], mark: u32) -> Report {
+    Report { values, mark }
+}
+
 /// The values of the first two places, and the mark.
 fn first_two(kind: u32, p: i32, a: i32, b: i32) -> (i32, i32, u32) {
     let report = kinds::result(kind, p, [a, b, 0, 0]).unwrap();
@@ -47,8 +51,8 @@ fn p4_shift() {
 #[test]
 fn p5_mean() {
     let mean = |b, c| kinds::result(5, 0, [7, b, c, 0]).unwrap();
-    assert_eq!(mean(3, 4), Report { values: [3, 3, 4, 0], mark: 0 });
-    assert_eq!(mean(-3, -4), Report { values: [-4, -3, -4, 0], mark: 0 });
+    assert_eq!(mean(3, 4), report([3, 3, 4, 0], 0));
+    assert_eq!(mean(-3, -4), report([-4, -3, -4, 0], 0));
     assert_eq!(mean(i32::MAX, i32::MAX).values[0], i32::MAX);
     assert_eq!(mean(i32::MIN, i32::MIN).values[0], i32::MIN);
     assert_eq!(mean(i32::MIN, i32::MAX).values[0], -1);
@@ -63,7 +67,11 @@ fn p6_pair() {
 
 #[test]
 fn p7_conflict() {
-    let job = |cell, mode| Job { kind: 0, p: 0, accesses: vec![on(cell, mode)] };
+    let job = |cell, mode| Job {
+        kind: 0,
+        p: 0,
+        accesses: vec![on(cell, mode)],
+    };
     assert!(!conflict(&job(0, READ), &job(0, READ)));
     assert!(conflict(&job(0, READ), &job(0, MAYBE)));
     assert!(conflict(&job(0, MAYBE), &job(0, READ)));
@@ -90,19 +98,19 @@ fn p9_both_guesses_fall() {
     batch.seal(1).unwrap();
     assert_eq!(batch.start_own(0), Ok([1300, 0, 0, 0]));
     assert_eq!(batch.start_guess(1), Ok([1300, 0, 0, 0]));
-    assert_eq!(batch.report_guess(1, Report { values: [1320, 0, 0, 0], mark: 0 }), Ok(()));
+    assert_eq!(batch.report_guess(1, report([1320, 0, 0, 0], 0)), Ok(()));
     assert_eq!(batch.start_guess(2), Ok([1320, 0, 0, 0]));
-    assert_eq!(batch.report_guess(2, Report { values: [1340, 0, 0, 0], mark: 0 }), Ok(()));
-    assert_eq!(batch.report_own(0, Report { values: [1400, 0, 0, 0], mark: 1 }), Ok(()));
+    assert_eq!(batch.report_guess(2, report([1340, 0, 0, 0], 0)), Ok(()));
+    assert_eq!(batch.report_own(0, report([1400, 0, 0, 0], 1)), Ok(()));
     assert!(batch.guess_has_fallen(1) && batch.guess_has_fallen(2));
     assert_eq!(batch.start_own(2), Err(15));
     assert_eq!(batch.settle(1), Err(18));
     assert_eq!(batch.start_own(1), Ok([1400, 0, 0, 0]));
-    assert_eq!(batch.report_own(1, Report { values: [1420, 0, 0, 0], mark: 0 }), Ok(()));
+    assert_eq!(batch.report_own(1, report([1420, 0, 0, 0], 0)), Ok(()));
     // Job 2 took from a guess that was thrown away.
     assert_eq!(batch.settle(2), Err(18));
     assert_eq!(batch.start_own(2), Ok([1420, 0, 0, 0]));
-    assert_eq!(batch.report_own(2, Report { values: [1440, 0, 0, 0], mark: 0 }), Ok(()));
+    assert_eq!(batch.report_own(2, report([1440, 0, 0, 0], 0)), Ok(()));
     assert!(batch.finished());
     assert_eq!(batch.ask_cell(0), Ok(1440));
 }
@@ -145,10 +153,10 @@ fn an_earlier_reader_holds_a_writer_back() {
     batch.seal(1).unwrap();
     assert_eq!(batch.start_own(1), Err(15));
     assert_eq!(batch.start_guess(1), Ok([1, 0, 0, 0]));
-    assert_eq!(batch.report_guess(1, Report { values: [9, 0, 0, 0], mark: 0 }), Ok(()));
+    assert_eq!(batch.report_guess(1, report([9, 0, 0, 0], 0)), Ok(()));
     assert_eq!(batch.settle(1), Err(15));
     assert_eq!(batch.start_own(0), Ok([1, 0, 0, 0]));
-    assert_eq!(batch.report_own(0, Report { values: [77, 77, 77, 77], mark: 0 }), Ok(()));
+    assert_eq!(batch.report_own(0, report([77, 77, 77, 77], 0)), Ok(()));
     assert_eq!(batch.ask_cell(0), Ok(1));
     assert_eq!(batch.settle(1), Ok(()));
     assert_eq!(batch.ask_cell(0), Ok(9));
@@ -171,9 +179,9 @@ fn the_chooser() {
     assert_eq!(choice(&batch), Ok((1, 2, 2)));
     batch.start_guess(2).unwrap();
     assert_eq!(choice(&batch), Err(19));
-    batch.report_guess(2, Report { values: [2, 0, 0, 0], mark: 0 }).unwrap();
+    batch.report_guess(2, report([2, 0, 0, 0], 0)).unwrap();
     assert_eq!(choice(&batch), Ok((1, 3, 1)));
-    batch.report_own(1, Report { values: [0, 0, 0, 0], mark: 0 }).unwrap();
+    batch.report_own(1, report([0, 0, 0, 0], 0)).unwrap();
     assert_eq!(choice(&batch), Ok((4, 2, 2)));
 }
 
@@ -186,7 +194,10 @@ fn p10_limits() {
     assert_eq!(batch.insert(4, 0, &[on(63, MAYBE)]), Err(3));
     assert_eq!(Batch::open(&[0; 65]), Err(1));
     let mut batch = Batch::open(&[0; 5]).unwrap();
-    assert_eq!(batch.insert(0, 0, &[0, 1, 2, 3, 4].map(|cell| on(cell, READ))), Err(4));
+    assert_eq!(
+        batch.insert(0, 0, &[0, 1, 2, 3, 4].map(|cell| on(cell, READ))),
+        Err(4)
+    );
     assert!(!batch.finished());
     batch.seal(0).unwrap();
     assert!(batch.finished());
