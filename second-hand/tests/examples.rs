@@ -1,9 +1,12 @@
-//! The worked examples of the rules, P1 to P10, Monday's and Thursday's batch, and
+//! The worked examples of the rules, P1 to P11, Monday's and Thursday's batch, and
 //! some others.
 
 use second_hand::answer;
 use second_hand::engine::{conflict, Access, Batch, Job, Report, Settled, MAYBE, READ, WRITE};
 use second_hand::kinds;
+use second_hand::lists::Call;
+use second_hand::record::{self, Record};
+use second_hand::tally::{total, Tally};
 
 fn told(plan: &str) -> String {
     String::from_utf8(answer(plan.as_bytes())).unwrap()
@@ -11,6 +14,10 @@ fn told(plan: &str) -> String {
 
 fn on(cell: u32, mode: u32) -> Access {
     Access { cell, mode }
+}
+
+fn report(values: [i32; 4], mark: u32) -> Report {
+    Report { values, mark }
 }
 
 /// The values of the first two places, and the mark.
@@ -47,8 +54,8 @@ fn p4_shift() {
 #[test]
 fn p5_mean() {
     let mean = |b, c| kinds::result(5, 0, [7, b, c, 0]).unwrap();
-    assert_eq!(mean(3, 4), Report { values: [3, 3, 4, 0], mark: 0 });
-    assert_eq!(mean(-3, -4), Report { values: [-4, -3, -4, 0], mark: 0 });
+    assert_eq!(mean(3, 4), report([3, 3, 4, 0], 0));
+    assert_eq!(mean(-3, -4), report([-4, -3, -4, 0], 0));
     assert_eq!(mean(i32::MAX, i32::MAX).values[0], i32::MAX);
     assert_eq!(mean(i32::MIN, i32::MIN).values[0], i32::MIN);
     assert_eq!(mean(i32::MIN, i32::MAX).values[0], -1);
@@ -63,7 +70,11 @@ fn p6_pair() {
 
 #[test]
 fn p7_conflict() {
-    let job = |cell, mode| Job { kind: 0, p: 0, accesses: vec![on(cell, mode)] };
+    let job = |cell, mode| Job {
+        kind: 0,
+        p: 0,
+        accesses: vec![on(cell, mode)],
+    };
     assert!(!conflict(&job(0, READ), &job(0, READ)));
     assert!(conflict(&job(0, READ), &job(0, MAYBE)));
     assert!(conflict(&job(0, MAYBE), &job(0, READ)));
@@ -90,19 +101,19 @@ fn p9_both_guesses_fall() {
     batch.seal(1).unwrap();
     assert_eq!(batch.start_own(0), Ok([1300, 0, 0, 0]));
     assert_eq!(batch.start_guess(1), Ok([1300, 0, 0, 0]));
-    assert_eq!(batch.report_guess(1, Report { values: [1320, 0, 0, 0], mark: 0 }), Ok(()));
+    assert_eq!(batch.report_guess(1, report([1320, 0, 0, 0], 0)), Ok(()));
     assert_eq!(batch.start_guess(2), Ok([1320, 0, 0, 0]));
-    assert_eq!(batch.report_guess(2, Report { values: [1340, 0, 0, 0], mark: 0 }), Ok(()));
-    assert_eq!(batch.report_own(0, Report { values: [1400, 0, 0, 0], mark: 1 }), Ok(()));
+    assert_eq!(batch.report_guess(2, report([1340, 0, 0, 0], 0)), Ok(()));
+    assert_eq!(batch.report_own(0, report([1400, 0, 0, 0], 1)), Ok(()));
     assert!(batch.guess_has_fallen(1) && batch.guess_has_fallen(2));
     assert_eq!(batch.start_own(2), Err(15));
     assert_eq!(batch.settle(1), Err(18));
     assert_eq!(batch.start_own(1), Ok([1400, 0, 0, 0]));
-    assert_eq!(batch.report_own(1, Report { values: [1420, 0, 0, 0], mark: 0 }), Ok(()));
+    assert_eq!(batch.report_own(1, report([1420, 0, 0, 0], 0)), Ok(()));
     // Job 2 took from a guess that was thrown away.
     assert_eq!(batch.settle(2), Err(18));
     assert_eq!(batch.start_own(2), Ok([1420, 0, 0, 0]));
-    assert_eq!(batch.report_own(2, Report { values: [1440, 0, 0, 0], mark: 0 }), Ok(()));
+    assert_eq!(batch.report_own(2, report([1440, 0, 0, 0], 0)), Ok(()));
     assert!(batch.finished());
     assert_eq!(batch.ask_cell(0), Ok(1440));
 }
@@ -145,10 +156,10 @@ fn an_earlier_reader_holds_a_writer_back() {
     batch.seal(1).unwrap();
     assert_eq!(batch.start_own(1), Err(15));
     assert_eq!(batch.start_guess(1), Ok([1, 0, 0, 0]));
-    assert_eq!(batch.report_guess(1, Report { values: [9, 0, 0, 0], mark: 0 }), Ok(()));
+    assert_eq!(batch.report_guess(1, report([9, 0, 0, 0], 0)), Ok(()));
     assert_eq!(batch.settle(1), Err(15));
     assert_eq!(batch.start_own(0), Ok([1, 0, 0, 0]));
-    assert_eq!(batch.report_own(0, Report { values: [77, 77, 77, 77], mark: 0 }), Ok(()));
+    assert_eq!(batch.report_own(0, report([77, 77, 77, 77], 0)), Ok(()));
     assert_eq!(batch.ask_cell(0), Ok(1));
     assert_eq!(batch.settle(1), Ok(()));
     assert_eq!(batch.ask_cell(0), Ok(9));
@@ -171,9 +182,9 @@ fn the_chooser() {
     assert_eq!(choice(&batch), Ok((1, 2, 2)));
     batch.start_guess(2).unwrap();
     assert_eq!(choice(&batch), Err(19));
-    batch.report_guess(2, Report { values: [2, 0, 0, 0], mark: 0 }).unwrap();
+    batch.report_guess(2, report([2, 0, 0, 0], 0)).unwrap();
     assert_eq!(choice(&batch), Ok((1, 3, 1)));
-    batch.report_own(1, Report { values: [0, 0, 0, 0], mark: 0 }).unwrap();
+    batch.report_own(1, report([0, 0, 0, 0], 0)).unwrap();
     assert_eq!(choice(&batch), Ok((4, 2, 2)));
 }
 
@@ -186,8 +197,129 @@ fn p10_limits() {
     assert_eq!(batch.insert(4, 0, &[on(63, MAYBE)]), Err(3));
     assert_eq!(Batch::open(&[0; 65]), Err(1));
     let mut batch = Batch::open(&[0; 5]).unwrap();
-    assert_eq!(batch.insert(0, 0, &[0, 1, 2, 3, 4].map(|cell| on(cell, READ))), Err(4));
+    assert_eq!(
+        batch.insert(0, 0, &[0, 1, 2, 3, 4].map(|cell| on(cell, READ))),
+        Err(4)
+    );
     assert!(!batch.finished());
     batch.seal(0).unwrap();
     assert!(batch.finished());
+}
+
+/// One batch on both implementations, `engine` and `record`.
+struct Both {
+    batch: Batch,
+    record: Record,
+}
+
+impl Both {
+    /// A floor and so many shifts on cell 0; not sealed.
+    fn floor_and_shifts(heights: &[i32], shifts: usize) -> Both {
+        let mut both = Both {
+            batch: Batch::open(heights).unwrap(),
+            record: Record::open(heights).unwrap(),
+        };
+        both.insert(4, 1400, 2);
+        for _ in 0..shifts {
+            both.insert(2, 20, 1);
+        }
+        both
+    }
+
+    fn insert(&mut self, kind: u8, parameter: i32, mode: u8) {
+        let job = record::Job {
+            kind,
+            parameter,
+            arity: 1,
+            accesses: [(0, mode), (0, 0), (0, 0), (0, 0)],
+        };
+        assert_eq!(self.call(Call::Insert(job)), 0);
+    }
+
+    /// 0 or the refusal, the same from both.
+    fn call(&mut self, call: Call) -> u8 {
+        let refusal = call.on_record(&mut self.record);
+        assert_eq!(call.on_batch(&mut self.batch), u32::from(refusal));
+        refusal
+    }
+
+    /// A step; what is reported is the kind's result.
+    fn step(&mut self, number: u8, job: usize) -> u8 {
+        let held = self.record.jobs[job];
+        let handed = self.record.runs[job].handed;
+        let report = kinds::result(u32::from(held.kind), held.parameter, handed).unwrap();
+        self.call(Call::Step {
+            number,
+            job,
+            values: report.values,
+            mark: report.mark as u8,
+        })
+    }
+
+    /// The tally is this on both.
+    fn has(&self, due: [u32; 5]) -> Tally {
+        assert_eq!(self.batch.tally().numbers(), due);
+        assert_eq!(self.record.ask_tally(), (0, Tally::of_numbers(due)));
+        Tally::of_numbers(due)
+    }
+}
+
+/// P8's batch; its last tally.
+fn p11_of_p8() -> Tally {
+    let mut both = Both::floor_and_shifts(&[1500, 1480], 1);
+    both.has([2, 0, 0, 0, 0]);
+    assert_eq!(both.call(Call::Seal(1)), 0);
+    assert_eq!(both.step(0, 0), 0);
+    assert_eq!(both.step(1, 1), 0);
+    both.has([2, 1, 0, 0, 1]);
+    assert_eq!(both.step(3, 1), 0);
+    both.has([2, 1, 0, 0, 1]);
+    assert_eq!(both.step(2, 0), 0);
+    // Still stored.
+    both.has([2, 1, 0, 0, 1]);
+    assert_eq!(both.step(4, 1), 0);
+    assert!(both.batch.finished() && both.record.ask_batch().finished);
+    assert_eq!(both.batch.ask_cell(0), Ok(1520));
+    assert_eq!(both.record.ask_cell(0), (0, 1520));
+    both.has([2, 1, 1, 0, 0])
+}
+
+/// P9's batch; its last tally.
+fn p11_of_p9() -> Tally {
+    let mut both = Both::floor_and_shifts(&[1300], 2);
+    assert_eq!(both.call(Call::Seal(1)), 0);
+    for (number, job) in [(0, 0), (1, 1), (3, 1), (1, 2), (3, 2), (2, 0)] {
+        assert_eq!(both.step(number, job), 0);
+    }
+    // Both guesses have fallen, and none is thrown away yet.
+    for job in [1, 2] {
+        assert!(both.batch.guess_has_fallen(job));
+        assert_eq!(both.record.ask_job(job as usize).validity, 3);
+    }
+    both.has([3, 2, 0, 0, 2]);
+    assert_eq!(both.step(0, 2), 15);
+    both.has([3, 2, 0, 0, 2]);
+    assert_eq!(both.step(0, 1), 0);
+    both.has([3, 2, 0, 1, 1])
+}
+
+#[test]
+fn p11_tallies() {
+    let both_last = Tally::of_numbers([5, 3, 1, 1, 1]);
+    assert_eq!(total(&[p11_of_p8(), p11_of_p9()]), (0, both_last));
+    assert_eq!(both_last.kept_share(), Some(333));
+}
+
+#[test]
+fn p11_totals_at_the_limit() {
+    for place in 0..5 {
+        let only = |number| {
+            let mut numbers = [0; 5];
+            numbers[place] = number;
+            Tally::of_numbers(numbers)
+        };
+        let most = only(4_294_967_295);
+        assert_eq!(total(&[most, only(0)]), (0, most));
+        assert_eq!(total(&[most, only(1)]), (23, Tally::default()));
+    }
 }
