@@ -67,10 +67,6 @@ pub flag-limit : (t : Bool) → flag t ≤ 1
 flag-limit true = omega arith
 flag-limit false = omega arith
 
-pub count-none : (p : ℕ → Bool) → countBelow 0 p ≡ 0
-unfolding countBelow
-count-none p = refl
-
 pub count-more : (n : ℕ) (p : ℕ → Bool) → countBelow (n + 1) p ≡ countBelow n p + flag (p n)
 unfolding countBelow
 count-more n p = rw add-one (omega arith)

@@ -26,6 +26,7 @@ abbrev pub numbers : ℕ → ℕ → ℕ → ℕ → ℕ → Tally
 numbers jobs started kept discarded pending =
     record { jobs = jobs; started = started; kept = kept; discarded = discarded; pending = pending }
 
+-- The limit, written out again so that the rows hold the definition's.
 abbrev most : ℕ
 most = 4294967295
 
