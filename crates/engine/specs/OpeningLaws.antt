@@ -38,9 +38,8 @@ next-passed false k rest h e = (refl, e)
 pub insert-place : (b : Batch) (job : Job) → insertRefusal b job ≡ 0 → b .«job_count» < 128
 insert-place b job e =
     let s = snapshotOf b in
-    let p = next-passed (s .sealed) 2 (when (leb 128 (s .jobCount)) 3 ∷ jobRefusals job (s .cellCount)) (omega arith) (allowed-tests b (insertTests s job) e) in
-    let q = next-passed (leb 128 (s .jobCount)) 3 (jobRefusals job (s .cellCount)) (omega arith) (p .1) in
-    leb-false 128 (b .«job_count») (q .0)
+    let p = next-passed (leb 128 (s .jobCount)) 3 (jobRefusals job (s .cellCount)) (omega arith) (allowed-tests b (insertTests s job) e) in
+    leb-false 128 (b .«job_count») (p .0)
 
 -- The batch of a refused opening is out of form, so that every entry refuses it with 32.
 pub refused-opening-form : (heights : List ℤ) → (opened heights .refusal ≡ 0 → ⊥) → inForm (opened heights .batch) ≡ false

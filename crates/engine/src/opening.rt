@@ -96,9 +96,6 @@ impl Batch {
         ensures { λ r. ⌜ r ≡ insertRefusal self job ⌝ }
     {
         if self.is_in_form() {
-            if self.sealed != 0 {
-                return 2;
-            }
             if 128 <= self.job_count {
                 return 3;
             }
@@ -123,7 +120,7 @@ impl Batch {
         self
     }
 
-    /// R6: inserts the job as the last one. Refused with 2 to 8, or 32.
+    /// R6: inserts the job as the last one, before sealing or after it. Refused with 3 to 8, or 32.
     pub fn insert(self, job: Job) -> Answer
         ensures { λ r. ⌜ r ≡ inserted self job ⌝ }
     {
@@ -154,7 +151,7 @@ impl Batch {
         32
     }
 
-    /// R7: fixes the list of jobs; `switch` says whether speculative runs may be started. Refused with 2, 9 or 32.
+    /// R7: from now on steps are taken; `switch` says whether speculative runs may be started. Refused with 2, 9 or 32.
     pub fn seal(mut self, switch: u8) -> Answer
         ensures { λ r. ⌜ r ≡ sealedWith self switch ⌝ }
     {

@@ -117,12 +117,17 @@ abbrev pub table : List Example
 table =
     -- insert
     answers (unsealed 6) (insert (one 0 0)) 0
-    ∷ answers (guessingOn []) (insert (one 0 0)) 2
     ∷ answers (unsealed 127) (insert (one 0 0)) 0
     ∷ answers (unsealed 128) (insert (one 0 0)) 3
     ∷ answers (unsealed 6) (insert none) 4
-    ∷ answers (moment 128 true true []) (insert none) 2
     ∷ answers (unsealed 128) (insert none) 3
+    -- after the seal: of no jobs, with runs out, with all jobs settled
+    ∷ answers (moment 0 true false []) (insert (one 0 0)) 0
+    ∷ answers (guessingOn (running ∷ guessed ∷ stored ∷ [])) (insert (one 0 0)) 0
+    ∷ answers (moment 2 true true (kept ∷ taken ∷ [])) (insert (one 0 0)) 0
+    ∷ answers (moment 128 true true []) (insert (one 0 0)) 3
+    ∷ answers (guessingOff []) (insert none) 4
+    ∷ answers (moment 128 true true []) (insert none) 3
     -- seal
     ∷ answers (unsealed 0) (seal 0) 0
     ∷ answers (unsealed 6) (seal 1) 0
@@ -215,7 +220,8 @@ pub examples-hold : AllHold Holds table
 unfolding refusalOf firstOf isReady isInvalid invalidBelow sourceBelow conflicts touches anyBelow
 examples-hold =
     -- insert
-    refl also refl also refl also refl also refl also refl also refl
+    refl also refl also refl also refl also refl
+    also refl also refl also refl also refl also refl also refl
     -- seal
     also refl also refl also refl also refl also refl
     -- start own

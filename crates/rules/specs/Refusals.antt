@@ -12,11 +12,11 @@ use Rattle.rules.specs.Snapshot.{Snapshot, neverStarted, isOut, isStored
 use Rattle.rules.specs.Speculation.{isReady, isInvalid, isValid, sourceMissing}
 use Rattle.rules.specs.Call.{Call, insert, seal, startOwn, startSpeculation, reportOwn, reportSpeculation, commit}
 
--- R102: the batch is sealed. R103: 128 jobs are held. Then R104 to R108, as the job alone decides.
+-- R103: 128 jobs are held. Then R104 to R108, as the job alone decides. Sealed or not: jobs may come at any moment (R6).
 abbrev pub insertTests : Snapshot → Job → List Refusal
-insertTests s job = when (s .sealed) 2 ∷ when (leb 128 (s .jobCount)) 3 ∷ jobRefusals job (s .cellCount)
+insertTests s job = when (leb 128 (s .jobCount)) 3 ∷ jobRefusals job (s .cellCount)
 
--- R102 again. R109: the guess switch is neither 0 nor 1.
+-- R102: the batch is sealed already. R109: the guess switch is neither 0 nor 1.
 abbrev pub sealTests : Snapshot → ℕ → List Refusal
 sealTests s switch = when (s .sealed) 2 ∷ when (ltb 1 switch) 9 ∷ []
 

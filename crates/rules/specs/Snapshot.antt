@@ -8,7 +8,7 @@ pub record Snapshot : Type 0 where
   -- how many cells and jobs there are
   pub cellCount : ℕ
   pub jobCount : ℕ
-  -- the list is sealed, and with guessing on
+  -- the batch is sealed, and with guessing on
   pub sealed : Bool
   pub speculating : Bool
   -- of each job: what was inserted

@@ -118,11 +118,11 @@ pub inserted-kept : {b : Batch} {l : Ledger} → Faithful b l → (job : Job) (h
     → Faithful (withInserted b job) (enter l (insert job) handed)
 unfolding withInserted enter jobRefusal
 inserted-kept {b} {l} agree job handed e =
-    let tests = tests-passed agree (insertTests (snapshotOf b) job) (tt, (tt, (tt, (tt, (tt, (tt, (tt, (tt, tt)))))))) e in
+    let tests = tests-passed agree (insertTests (snapshotOf b) job) (tt, (tt, (tt, (tt, (tt, (tt, (tt, tt))))))) e in
     let n = b .«job_count» in
-    let inside : n < 128 = leb-false 128 n (tests .1 .0) in
+    let inside : n < 128 = leb-false 128 n (tests .0) in
     let admitted-new : jobRefusal job (length (l .heights)) ≡ 0 =
-    ap (λ (k : ℕ). jobRefusal job k) (sym (agree .cell-count)) ∙ accepted (jobRefusals job (b .«cell_count»)) (tests .1 .1) in
+    ap (λ (k : ℕ). jobRefusal job k) (sym (agree .cell-count)) ∙ accepted (jobRefusals job (b .«cell_count»)) (tests .1) in
     record {
       cells-length = agree .cells-length;
       jobs-length = length-set (b .jobs) n job ∙ agree .jobs-length;
