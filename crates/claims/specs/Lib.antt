@@ -3,6 +3,8 @@ pub mod Replay
 pub mod Trace
 pub mod Demand3
 pub mod StepCount
+pub mod Added
 pub mod SameEnd
+pub mod Inserts
 pub mod Chooser
 pub mod Tallies

@@ -1,17 +1,19 @@
 -- What an accepted question promises, and what it means to be finished.
-use Prim.Native.Nat.{ℕ, _-_, _<_, _≤_}
+use Prim.Native.Nat.{ℕ, _+_, _-_, _<_, _≤_}
 use native.Mathlib.Omega.{arith}
 use mathlib.Core.Bool.{Bool, true, false, not}
 use mathlib.Core.List.{List, [], _++_, append-assoc, append-nil}
 use mathlib.Core.Path.{_≡_, refl, sym, ap, _∙_}
 use lib.Dec.{eqb, leb, ltb}
 use lib.ListN.{length, take, drop, length-drop}
-use lib.Seq.{paste, take-all, drop-length, drop-drop}
+use lib.Seq.{paste, take-all, drop-length, drop-drop, getD-set-same}
 use borrow.Author.Tests.{ltb-false, leb-false}
-use Rattle.laws.specs.SearchLaws.{if-or, any-fails, any-absent, and-left, and-right, not-true}
+use Rattle.laws.specs.SearchLaws.{if-or, any-found, any-fails, any-absent, and-left, and-right, not-true, and-false}
+use Rattle.dependence.specs.declared.Job.{Job}
 use Rattle.engine.specs.declared.Batch.{Batch}
 use Rattle.engine.specs.Record.{committedAt}
 use Rattle.engine.specs.FormLaws.{form-counts}
+use Rattle.engine.specs.Opening.{withInserted}
 use Rattle.engine.specs.OpeningLaws.{allowed-form, allowed-tests, next-passed}
 use Rattle.engine.specs.Ask.{cellTests, cellRefusal, jobAskTests, jobAskRefusal, copyTests, copyAnswer}
 use Rattle.engine.specs.Ask.{shownJob, askedJob, uncommittedAt, anyUncommitted, isFinished}
@@ -88,3 +90,11 @@ pub means-finished : (b : Batch) → Finished b → isFinished b ≡ true
 unfolding isFinished
 means-finished b f =
     rw (f .is-sealed, any-absent (b .«job_count») (uncommittedAt b) (λ j h. ap not (f .all-settled j h)))
+
+-- And one that gains a job is not: this job is not settled.
+pub gains-unfinished : (b : Batch) (job : Job) → b .«job_count» < length (b .committed) → isFinished (withInserted b job) ≡ false
+unfolding isFinished withInserted
+gains-unfinished b job h =
+    rw (any-found (b .«job_count» + 1) (b .«job_count») (uncommittedAt (withInserted b job)) (omega arith)
+      (rw (getD-set-same (b .committed) (b .«job_count») 0 0 h)))
+    (and-false (not (eqb (b .sealed) 0)))

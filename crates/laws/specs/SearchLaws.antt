@@ -41,6 +41,10 @@ and-right true b e = e
 and-right false true e = refl
 and-right false false e = e
 
+pub and-false : (t : Bool) → (t && false) ≡ false
+and-false true = refl
+and-false false = refl
+
 pub not-true : (t : Bool) → not t ≡ true → t ≡ false
 not-true true e = sym e
 not-true false e = refl
@@ -157,12 +161,8 @@ any-narrow n j p q h =
     (λ i l.
     if-or (ltb i j)
     (λ t. rw t (any-fails j i (λ i. p i && q i) e (ltb-true i j t)))
-    (λ f. rw f (never (p i))))
+    (λ f. rw f (and-false (p i))))
     ∙ sym e)
-  where
-    never : (t : Bool) → (t && false) ≡ false
-    never true = refl
-    never false = refl
 
 -- Four tests made one after the other are a search below 4.
 pub four : (p : ℕ → Bool) {r a b c d : Bool}

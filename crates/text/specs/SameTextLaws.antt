@@ -8,7 +8,7 @@ use lib.Dec.{eqb}
 use lib.ListN.{length, drop, getD, drop-of-length-le}
 use lib.Seq.{drop-cons}
 use borrow.Author.Tests.{eqb-true, eq-eqb}
-use Rattle.laws.specs.SearchLaws.{clash, and-left, and-right}
+use Rattle.laws.specs.SearchLaws.{clash, and-left, and-right, and-false}
 use Rattle.text.specs.SameText.{sameText}
 
 -- The test holds of equal lists, and of no others.
@@ -51,8 +51,4 @@ unfolding sameText
 same-long [] [] h = absurd (h refl)
 same-long [] (byte ∷ text) h = refl
 same-long (byte ∷ bytes) [] h = refl
-same-long (byte ∷ bytes) (byte′ ∷ text) h = rw (same-long bytes text (λ e. h (ap suc e))) (never (eqb byte byte′))
-  where
-    never : (t : Bool) → (t && false) ≡ false
-    never true = refl
-    never false = refl
+same-long (byte ∷ bytes) (byte′ ∷ text) h = rw (same-long bytes text (λ e. h (ap suc e))) (and-false (eqb byte byte′))

@@ -225,7 +225,7 @@ module _ {b : Batch} {l : Ledger} (agree : Faithful b l) where
   faithful-form = rw (all-counts-in, any-absent (b .«job_count») (jobOut b) job-in)
 
   -- The rules read the same of both, but for places that hold no job.
-  pub same-snapshot : snapshotOf b ≡ withJobs (snapshotOfLedger l) (λ j. jobAt (b .jobs) j)
+  pub same-snapshot : snapshotOf b ≡ withJobs (snapshotOfLedger l) (l .jobCount) (λ j. jobAt (b .jobs) j)
   same-snapshot = λ i.
       record {
         cellCount = agree .cell-count i;

@@ -21,5 +21,6 @@ pub mod Theorem
 pub mod StepCount
 pub mod SameJob
 pub mod SameEnd
+pub mod Inserts
 pub mod Chooser
 pub mod Tallies

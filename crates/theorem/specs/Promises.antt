@@ -9,7 +9,7 @@ use lib.Dec.{leb}
 use lib.IntN.{pos}
 use lib.ListN.{replicate}
 use borrow.Author.Tests.{lt-leb}
-use Rattle.laws.specs.SearchLaws.{any-absent, if-or, clash}
+use Rattle.laws.specs.SearchLaws.{any-absent, if-or, clash, and-false}
 use Rattle.laws.specs.RefusalLaws.{Passed, accepted}
 use Rattle.dependence.specs.declared.Job.{Job}
 use Rattle.dependence.specs.Job.{jobAt}
@@ -26,7 +26,7 @@ use Rattle.engine.specs.Steps.{startedOwn, startedSpeculation, reportedOwn, rep
 use Rattle.engine.specs.Perform.{perform}
 use Rattle.claims.specs.Ledger.{Counted, Entry, Ledger, isSome, isCounted, ownIsOut, guessPhase, snapshotOfLedger}
 use Rattle.claims.specs.Demand3.{judged, own-start, own-report, speculation-report, commit-step, Accepted}
-use Rattle.theorem.specs.SameRefusal.{same-refusal}
+use Rattle.theorem.specs.SameRefusal.{held-alike, same-refusal}
 use Rattle.theorem.specs.Faithful.{Stage, untouched, guess-out, guess-reported, own-out, own-counted, guess-counted, Faithful}
 use Rattle.theorem.specs.Faithful.{stage-committed, stage-steps, faithful-form, same-snapshot}
 use Rattle.theorem.specs.Update.{at-or}
@@ -60,7 +60,8 @@ module _ {b : Batch} {l : Ledger} (agree : Faithful b l) where
       ∙ rw (faithful-form agree)
       (ap (λ (s : Snapshot). refusalOf s call) (same-snapshot agree)
       ∙ sym
-      (same-refusal (snapshotOfLedger l) (λ j. jobAt (b .jobs) j) (λ j h. sym (agree .jobs-are j h)) call))
+      (same-refusal (snapshotOfLedger l) (l .jobCount) (λ j. jobAt (b .jobs) j) (λ j h. sym (agree .jobs-are j h)) call
+      (held-alike (l .jobCount) call)))
 
   -- A job is settled where it has a counted report, with that report's mark.
   pub settled-counted : (j : ℕ) → committedAt b j ≡ isSome (l .entry j .counted)
@@ -147,14 +148,15 @@ module _ {b : Batch} {l : Ledger} (agree : Faithful b l) (sealed : isSome (l .sw
   is-ready : not (isReady (snapshotOfLedger l) j) ≡ false
   is-ready = ap not (all-settled-ready (snapshotOfLedger l) j earlier)
 
+  -- Where neither its own run nor its guess is there, the own run may be started.
+  pub own-may-start : ownIsOut (l .entry j) ≡ false → isLive (guessPhase (l .entry j .guess)) ≡ false
+      → perform b (startOwn j) .refusal ≡ 0
+  own-may-start own live =
+      allowed-by (startOwn j) (is-sealed, (is-below, (rw (own, unsettled), (is-ready, (rw live, tt)))))
+
   -- The first unsettled job has an accepted step.
   first-moves : Next (l .entry j) → Accepted b l
-  first-moves (to-start own live) =
-      record {
-        call = startOwn j;
-        step = own-start;
-        allowed = allowed-by (startOwn j) (is-sealed, (is-below, (rw (own, unsettled), (is-ready, (rw live, tt)))));
-      }
+  first-moves (to-start own live) = record { call = startOwn j; step = own-start; allowed = own-may-start own live }
   first-moves (to-report own) =
       record {
         call = reportOwn j (replicate 4 (pos 0)) 0;
@@ -178,7 +180,7 @@ module _ {b : Batch} {l : Ledger} (agree : Faithful b l) (sealed : isSome (l .sw
               is-sealed,
               (
                 is-below,
-                (rw (own, unsettled), (is-ready, (rw fallen (never (isLive (guessPhase (l .entry j .guess)))), tt))),
+                (rw (own, unsettled), (is-ready, (rw fallen (and-false (isLive (guessPhase (l .entry j .guess)))), tt))),
               ),
             );
       })
@@ -188,10 +190,6 @@ module _ {b : Batch} {l : Ledger} (agree : Faithful b l) (sealed : isSome (l .sw
         step = commit-step;
         allowed = allowed-by (commit j) (is-sealed, (is-below, (rw (unsettled, stored), (is-ready, (stands, tt)))));
       })
-    where
-      never : (t : Bool) → (t && false) ≡ false
-      never true = refl
-      never false = refl
 
 -- While a job of a sealed batch is unsettled, some step is accepted.
 pub some-step : {b : Batch} {l : Ledger} → Faithful b l → isSome (l .switch) ≡ true

@@ -13,16 +13,16 @@ use Rattle.dependence.specs.declared.Job.{Job}
 use Rattle.dependence.specs.Job.{inUse, accessAt}
 use Rattle.rules.specs.Walk.{sourceBelow, bypassAt}
 use Rattle.rules.specs.Snapshot.{Snapshot}
-use Rattle.rules.specs.Speculation.{waits, isReady, sourceNow, bypassedNow, invalidBelow, isInvalid, unusable, sourceMissing}
+use Rattle.rules.specs.Speculation.{waits, isReady, sourceNow, bypassedNow, invalidBelow, isInvalid, validity, unusable, sourceMissing}
 use Rattle.rules.specs.Call.{Call, insert, seal, startOwn, startSpeculation, reportOwn, reportSpeculation, commit}
 use Rattle.rules.specs.Refusals.{stepTests, refusalOf}
 
--- The snapshot with other jobs.
-abbrev pub withJobs : Snapshot → (ℕ → Job) → Snapshot
-withJobs s job =
+-- The snapshot with another number of jobs and other jobs.
+abbrev pub withJobs : Snapshot → ℕ → (ℕ → Job) → Snapshot
+withJobs s count job =
     record {
       cellCount = s .cellCount;
-      jobCount = s .jobCount;
+      jobCount = count;
       sealed = s .sealed;
       speculating = s .speculating;
       job = job;
@@ -42,70 +42,96 @@ source-below-same f g committed cell zero h = refl
 source-below-same f g committed cell (suc j) h =
     rw (h j (omega arith), source-below-same f g committed cell j (λ i l. h i (omega arith)))
 
--- Which guesses have fallen does not depend on the jobs.
-invalid-below-same : (s : Snapshot) (g : ℕ → Job) (j : ℕ) → invalidBelow s j ≡ invalidBelow (withJobs s g) j
-unfolding invalidBelow
-invalid-below-same s g zero = refl
-invalid-below-same s g (suc j) = rw (invalid-below-same s g j)
+module _ (s : Snapshot) (count : ℕ) (g : ℕ → Job) where
+  -- Which guesses have fallen does not depend on the jobs.
+  invalid-below-same : (j : ℕ) → invalidBelow s j ≡ invalidBelow (withJobs s count g) j
+  unfolding invalidBelow
+  invalid-below-same zero = refl
+  invalid-below-same (suc j) = rw (invalid-below-same j)
 
--- So the same guesses have fallen, and are of no use to others.
-pub invalid-same : (s : Snapshot) (g : ℕ → Job) (j : ℕ) → isInvalid s j ≡ isInvalid (withJobs s g) j
-unfolding isInvalid
-invalid-same s g j = rw (invalid-below-same s g j)
+  -- So the same guesses have fallen, and are of no use to others.
+  invalid-same : (j : ℕ) → isInvalid s j ≡ isInvalid (withJobs s count g) j
+  unfolding isInvalid
+  invalid-same j = rw (invalid-below-same j)
 
-unusable-same : (s : Snapshot) (g : ℕ → Job) (source : ℕ) → unusable s source ≡ unusable (withJobs s g) source
-unusable-same s g source = rw (invalid-same s g (source - 1))
+  unusable-same : (source : ℕ) → unusable s source ≡ unusable (withJobs s count g) source
+  unusable-same source = rw (invalid-same (source - 1))
 
--- For a job number below the count, with jobs that agree below it.
-module _ (s : Snapshot) (g : ℕ → Job) (same : (i : ℕ) → i < s .jobCount → s .job i ≡ g i) (j : ℕ) (h : j < s .jobCount) where
-  -- The same job is ready.
-  pub ready-same : isReady s j ≡ isReady (withJobs s g) j
-  unfolding isReady
-  ready-same =
-      ap not
-      (any-same j (waits s j) (waits (withJobs s g) j) (λ i l. rw (same i (omega arith), same j h)))
+  -- With jobs that agree below the count, for a job number below it.
+  module _ (same : (i : ℕ) → i < s .jobCount → s .job i ≡ g i) (j : ℕ) (h : j < s .jobCount) where
+    -- The same job is ready.
+    ready-same : isReady s j ≡ isReady (withJobs s count g) j
+    unfolding isReady
+    ready-same =
+        ap not
+        (any-same j (waits s j) (waits (withJobs s count g) j) (λ i l. rw (same i (omega arith), same j h)))
 
-  -- A guess of it takes from the same jobs, and looks past the same ones.
-  pub source-same : (place : ℕ) → sourceNow s j place ≡ sourceNow (withJobs s g) j place
-  source-same place =
-      rw (same j h)
-      (ap (λ (k : ℕ). cond (inUse (g j) place) k 0)
-      (source-below-same (s .job) g (s .committed) (accessAt (g j) place .cell) j (λ i l. same i (omega arith))))
+    -- A guess of it is judged alike.
+    pub validity-same : validity s j ≡ validity (withJobs s count g) j
+    unfolding validity
+    validity-same = rw (ready-same, invalid-same j)
 
-  pub bypassed-same : (i : ℕ) → bypassedNow s j i ≡ bypassedNow (withJobs s g) j i
-  bypassed-same i = earlier (ltb i j) refl
-    where
-      earlier : (t : Bool) → ltb i j ≡ t
-          → (t && anyBelow 4 (bypassAt (s .job) (s .committed) j i)) ≡ (t && anyBelow 4 (bypassAt g (s .committed) j i))
-      earlier false e = refl
-      earlier true e =
-          any-same 4 (bypassAt (s .job) (s .committed) j i) (bypassAt g (s .committed) j i)
-          (λ place l. rw (source-same place, same j h, same i (omega (arith, ltb-true i j e))))
+    -- It takes from the same jobs, and looks past the same ones.
+    pub source-same : (place : ℕ) → sourceNow s j place ≡ sourceNow (withJobs s count g) j place
+    source-same place =
+        rw (same j h)
+        (ap (λ (k : ℕ). cond (inUse (g j) place) k 0)
+        (source-below-same (s .job) g (s .committed) (accessAt (g j) place .cell) j (λ i l. same i (omega arith))))
 
-  -- It lacks a source alike.
-  missing-same : sourceMissing s j ≡ sourceMissing (withJobs s g) j
-  missing-same =
-      any-same 4 (λ place. unusable s (sourceNow s j place)) (λ place. unusable (withJobs s g) (sourceNow (withJobs s g) j place))
-      (λ place l. ap (unusable s) (source-same place) ∙ unusable-same s g (sourceNow (withJobs s g) j place))
+    pub bypassed-same : (i : ℕ) → bypassedNow s j i ≡ bypassedNow (withJobs s count g) j i
+    bypassed-same i = earlier (ltb i j) refl
+      where
+        earlier : (t : Bool) → ltb i j ≡ t
+            → (t && anyBelow 4 (bypassAt (s .job) (s .committed) j i)) ≡ (t && anyBelow 4 (bypassAt g (s .committed) j i))
+        earlier false e = refl
+        earlier true e =
+            any-same 4 (bypassAt (s .job) (s .committed) j i) (bypassAt g (s .committed) j i)
+            (λ place l. rw (source-same place, same j h, same i (omega (arith, ltb-true i j e))))
 
--- A step on a job number that is not below the count is refused before anything else is looked at.
-steps-same : (s : Snapshot) (g : ℕ → Job) (j : ℕ) (a b : List Refusal) → (j < s .jobCount → firstOf a ≡ firstOf b)
-    → firstOf (stepTests s j a) ≡ firstOf (stepTests (withJobs s g) j b)
-unfolding firstOf
-steps-same s g j a b h =
-    if-or (leb (s .jobCount) j) (λ t. rw t) (λ f. rw (f, h (leb-false (s .jobCount) j f)))
+    -- It lacks a source alike.
+    missing-same : sourceMissing s j ≡ sourceMissing (withJobs s count g) j
+    missing-same =
+        any-same 4 (λ place. unusable s (sourceNow s j place))
+        (λ place. unusable (withJobs s count g) (sourceNow (withJobs s count g) j place))
+        (λ place l. ap (unusable s) (source-same place) ∙ unusable-same (sourceNow (withJobs s count g) j place))
+
+  -- A step on a job number that is not below the count is refused before anything else is looked at.
+  steps-same : (j : ℕ) (a b : List Refusal) → leb (s .jobCount) j ≡ leb count j → (j < s .jobCount → firstOf a ≡ firstOf b)
+      → firstOf (stepTests s j a) ≡ firstOf (stepTests (withJobs s count g) j b)
+  unfolding firstOf
+  steps-same j a b held h =
+      if-or (leb (s .jobCount) j) (λ t. rw (← held, t)) (λ f. rw (← held, f, h (leb-false (s .jobCount) j f)))
+
+-- Both numbers of jobs say the same of the job that a call names.
+abbrev pub HeldAlike : ℕ → ℕ → Call → Type 0
+HeldAlike m n (insert job) = m ≡ n
+HeldAlike m n (seal switch) = Unit {0}
+HeldAlike m n (startOwn j) = leb m j ≡ leb n j
+HeldAlike m n (startSpeculation j) = leb m j ≡ leb n j
+HeldAlike m n (reportOwn j values wrote) = leb m j ≡ leb n j
+HeldAlike m n (reportSpeculation j values wrote) = leb m j ≡ leb n j
+HeldAlike m n (commit j) = leb m j ≡ leb n j
+
+pub held-alike : (n : ℕ) (call : Call) → HeldAlike n n call
+held-alike n (insert job) = refl
+held-alike n (seal switch) = tt
+held-alike n (startOwn j) = refl
+held-alike n (startSpeculation j) = refl
+held-alike n (reportOwn j values wrote) = refl
+held-alike n (reportSpeculation j values wrote) = refl
+held-alike n (commit j) = refl
 
 -- The rules refuse alike with jobs that agree below the count.
-pub same-refusal : (s : Snapshot) (g : ℕ → Job) → ((i : ℕ) → i < s .jobCount → s .job i ≡ g i)
-    → (call : Call) → refusalOf s call ≡ refusalOf (withJobs s g) call
+pub same-refusal : (s : Snapshot) (count : ℕ) (g : ℕ → Job) → ((i : ℕ) → i < s .jobCount → s .job i ≡ g i)
+    → (call : Call) → HeldAlike (s .jobCount) count call → refusalOf s call ≡ refusalOf (withJobs s count g) call
 unfolding refusalOf
-same-refusal s g same (insert job) = refl
-same-refusal s g same (seal switch) = refl
-same-refusal s g same (startOwn j) =
-    steps-same s g j _ _ (λ h. rw (ready-same s g same j h, invalid-same s g j))
-same-refusal s g same (startSpeculation j) =
-    steps-same s g j _ _ (λ h. rw (ready-same s g same j h, missing-same s g same j h))
-same-refusal s g same (reportOwn j values wrote) = steps-same s g j _ _ (λ h. rw (same j h))
-same-refusal s g same (reportSpeculation j values wrote) = steps-same s g j _ _ (λ h. rw (same j h))
-same-refusal s g same (commit j) =
-    steps-same s g j _ _ (λ h. rw (ready-same s g same j h, invalid-same s g j))
+same-refusal s count g same (insert job) held = rw held
+same-refusal s count g same (seal switch) held = refl
+same-refusal s count g same (startOwn j) held =
+    steps-same s count g j _ _ held (λ h. rw (ready-same s count g same j h, invalid-same s count g j))
+same-refusal s count g same (startSpeculation j) held =
+    steps-same s count g j _ _ held (λ h. rw (ready-same s count g same j h, missing-same s count g same j h))
+same-refusal s count g same (reportOwn j values wrote) held = steps-same s count g j _ _ held (λ h. rw (same j h))
+same-refusal s count g same (reportSpeculation j values wrote) held = steps-same s count g j _ _ held (λ h. rw (same j h))
+same-refusal s count g same (commit j) held =
+    steps-same s count g j _ _ held (λ h. rw (ready-same s count g same j h, invalid-same s count g j))

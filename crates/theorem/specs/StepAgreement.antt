@@ -68,12 +68,12 @@ module _ {b : Batch} {l : Ledger} (agree : Faithful b l) (j : ℕ) (h : j < l .j
   pub sources-agree : (place : ℕ) → sourceNow (snapshotOf b) j place ≡ sourceNow (snapshotOfLedger l) j place
   sources-agree place =
       ap (λ (s : Snapshot). sourceNow s j place) (same-snapshot agree)
-      ∙ sym (source-same (snapshotOfLedger l) (λ i. jobAt (b .jobs) i) jobs-same j h place)
+      ∙ sym (source-same (snapshotOfLedger l) (l .jobCount) (λ i. jobAt (b .jobs) i) jobs-same j h place)
 
   pub bypassed-agree : (i : ℕ) → bypassedNow (snapshotOf b) j i ≡ bypassedNow (snapshotOfLedger l) j i
   bypassed-agree i =
       ap (λ (s : Snapshot). bypassedNow s j i) (same-snapshot agree)
-      ∙ sym (bypassed-same (snapshotOfLedger l) (λ i. jobAt (b .jobs) i) jobs-same j h i)
+      ∙ sym (bypassed-same (snapshotOfLedger l) (l .jobCount) (λ i. jobAt (b .jobs) i) jobs-same j h i)
 
   -- A place past the four took from nobody.
   source-beyond : (place : ℕ) → 4 ≤ place → sourceNow (snapshotOfLedger l) j place ≡ 0

@@ -1,0 +1,51 @@
+-- R162: the ledger's jobs are those of the accepted inserts, in their order, wherever in the list these stand. (Proved as
+-- `jobs-inserted`.) So two lists inserted the same jobs where their accepted inserts are the same, one before its seal and the
+-- other after it. (Proved as `same-inserts`.)
+use Prim.Native.Nat.{ℕ, _<_}
+use mathlib.Core.Bool.{cond}
+use mathlib.Core.List.{List, [], _∷_, _++_}
+use mathlib.Core.Path.{_≡_}
+use lib.IntN.{ℤ}
+use lib.ListN.{length}
+use Rattle.dependence.specs.declared.Job.{Job}
+use Rattle.dependence.specs.Job.{jobAt}
+use Rattle.rules.specs.Call.{Call, insert, seal, startOwn, startSpeculation, reportOwn, reportSpeculation, commit}
+use Rattle.engine.specs.Opening.{opened}
+use Rattle.claims.specs.Ledger.{Ledger, Report}
+use Rattle.claims.specs.Trace.{Event, eventsOf, batchOf, ledgerOf}
+use Rattle.claims.specs.SameEnd.{Follows, EndAlike}
+
+-- The job of a call that is an insert, and of another call none.
+abbrev pub jobOf : Call → List Job
+jobOf (insert job) = job ∷ []
+jobOf (seal switch) = []
+jobOf (startOwn j) = []
+jobOf (startSpeculation j) = []
+jobOf (reportOwn j values wrote) = []
+jobOf (reportSpeculation j values wrote) = []
+jobOf (commit j) = []
+
+-- The jobs of the accepted inserts.
+unfoldable pub jobsOf : List Event → List Job
+jobsOf [] = []
+jobsOf (e ∷ events) = cond (e .accepted) (jobOf (e .call)) [] ++ jobsOf events
+
+-- The ledger's jobs are these.
+pub record JobsAre (jobs : List Job) (l : Ledger) : Type 0 where
+  pub count-is : l .jobCount ≡ length jobs
+  pub jobs-are : (j : ℕ) → j < l .jobCount → l .job j ≡ jobAt jobs j
+
+-- The accepted inserts of a list of calls.
+abbrev pub insertsOf : List ℤ → List Call → List Job
+insertsOf heights calls = jobsOf (eventsOf (opened heights .batch) calls)
+
+abbrev pub InsertsStatement : Type 0
+InsertsStatement = (heights : List ℤ) (calls : List Call) → JobsAre (insertsOf heights calls) (ledgerOf heights calls)
+
+-- R176 again, with the lists' own inserts in place of their ledgers' jobs.
+abbrev pub SameInsertsStatement : Type 0
+SameInsertsStatement =
+    (heights : List ℤ) (first second : List Call) → opened heights .refusal ≡ 0
+    → insertsOf heights first ≡ insertsOf heights second
+    → (rule : ℕ → List ℤ → Report) → Follows rule (ledgerOf heights first) → Follows rule (ledgerOf heights second)
+    → EndAlike (length heights) (length (insertsOf heights first)) (batchOf heights first) (batchOf heights second)
