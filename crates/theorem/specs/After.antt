@@ -36,17 +36,6 @@ accepted-keeps agree (reportOwn j values wrote) e = rw e (own-reported-kept agre
 accepted-keeps agree (reportSpeculation j values wrote) e = rw e (speculation-reported-kept agree j values wrote _ e)
 accepted-keeps agree (commit j) e = rw e (committed-kept agree j _ e)
 
--- A refusal changes nothing (R81).
-pub refused-stays : (b : Batch) (call : Call) → eqb (perform b call .refusal) 0 ≡ false → perform b call .batch ≡ b
-unfolding perform inserted sealedWith startedOwn startedSpeculation reportedOwn reportedSpeculation committedBy
-refused-stays b (insert job) e = rw e
-refused-stays b (seal switch) e = rw e
-refused-stays b (startOwn j) e = rw e
-refused-stays b (startSpeculation j) e = rw e
-refused-stays b (reportOwn j values wrote) e = rw e
-refused-stays b (reportSpeculation j values wrote) e = rw e
-refused-stays b (commit j) e = rw e
-
 -- The opening.
 
 -- A place of an array that was opened with one value holds it, and beyond the array stands the default.

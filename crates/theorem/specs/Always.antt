@@ -18,7 +18,8 @@ use Rattle.model.specs.State.{Invariant}
 use Rattle.model.specs.Opening.{opening-invariant}
 use Rattle.claims.specs.Ledger.{Ledger, emptyLedger, enter}
 use Rattle.claims.specs.Trace.{eventOf, eventsOf, batchAfter, recorded, ledgerAfter, batchOf, ledgerOf}
-use Rattle.theorem.specs.After.{accepted-keeps, refused-stays, opened-faithful}
+use Rattle.theorem.specs.Effect.{refused-stays}
+use Rattle.theorem.specs.After.{accepted-keeps, opened-faithful}
 use Rattle.theorem.specs.View.{progressFrom, speculationOf, stateOf}
 use Rattle.theorem.specs.Shaped.{ShapedEntry, nothing-shaped, present-shaped, speculative-shaped, struck-shaped}
 use Rattle.theorem.specs.Shaped.{report-shaped, own-counted-shaped, guess-counted-shaped, step-shaped, insert-shaped}

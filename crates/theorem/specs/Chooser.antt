@@ -15,20 +15,16 @@ use Rattle.engine.specs.Chooser.{allows, chosen}
 use Rattle.engine.specs.ChooserLaws.{Means, out-of-form, unsealed, commits, starts, speculates, nothing, chosen-means}
 use Rattle.engine.specs.ChooserLaws.{Stuck, nineteen-exact}
 use Rattle.claims.specs.Chooser.{StepAccepted, own-start, speculation-start, commit-step, ChooserStatement}
-use Rattle.theorem.specs.Promises.{performed-refusal}
+use Rattle.theorem.specs.Effect.{refusal-in-form}
 
 module _ (b : Batch) where
-  -- On a record in form a call is refused with the number that the rules give.
-  form-refusal : inForm b ≡ true → (call : Call) → perform b call .refusal ≡ refusalOf (snapshotOf b) call
-  form-refusal form call = performed-refusal b call ∙ rw form
-
-  -- So one that the rules allow is accepted, and one that they do not is refused.
+  -- On a record in form a call that the rules allow is accepted, and one that they do not is refused.
   allowed-accepted : inForm b ≡ true → (call : Call) → allows (snapshotOf b) call ≡ true → perform b call .refusal ≡ 0
-  allowed-accepted form call allowed = form-refusal form call ∙ eqb-true (refusalOf (snapshotOf b) call) 0 allowed
+  allowed-accepted form call allowed = refusal-in-form b call form ∙ eqb-true (refusalOf (snapshotOf b) call) 0 allowed
 
   barred-refused : inForm b ≡ true → (call : Call) → allows (snapshotOf b) call ≡ false → perform b call .refusal ≡ 0 → ⊥
   barred-refused form call barred accepted =
-      eqb-false (refusalOf (snapshotOf b) call) 0 barred (sym (form-refusal form call) ∙ accepted)
+      eqb-false (refusalOf (snapshotOf b) call) 0 barred (sym (refusal-in-form b call form) ∙ accepted)
 
   named-accepted : (choice : Choice) → Means b choice → choice .refusal ≡ 0 → StepAccepted b (choice .job) (choice .step)
   named-accepted choice (out-of-form f) e = absurd (omega arith)

@@ -1,3 +1,4 @@
+pub mod Effect
 pub mod SameRefusal
 pub mod Faithful
 pub mod Held
@@ -17,6 +18,8 @@ pub mod StepStates
 pub mod Right
 pub mod Always
 pub mod Outcome
+pub mod Added
+pub mod Exchange
 pub mod Theorem
 pub mod StepCount
 pub mod SameJob

@@ -26,21 +26,11 @@ use Rattle.engine.specs.Steps.{startedOwn, startedSpeculation, reportedOwn, rep
 use Rattle.engine.specs.Perform.{perform}
 use Rattle.claims.specs.Ledger.{Counted, Entry, Ledger, isSome, isCounted, ownIsOut, guessPhase, snapshotOfLedger}
 use Rattle.claims.specs.Demand3.{judged, own-start, own-report, speculation-report, commit-step, Accepted}
+use Rattle.theorem.specs.Effect.{refusal-in-form}
 use Rattle.theorem.specs.SameRefusal.{held-alike, same-refusal}
 use Rattle.theorem.specs.Faithful.{Stage, untouched, guess-out, guess-reported, own-out, own-counted, guess-counted, Faithful}
 use Rattle.theorem.specs.Faithful.{stage-committed, stage-steps, faithful-form, same-snapshot}
 use Rattle.theorem.specs.Update.{at-or}
-
--- A call's refusal on the record: 32 for a record out of form, and else what the rules say.
-pub performed-refusal : (b : Batch) (call : Call) → perform b call .refusal ≡ cond (inForm b) (refusalOf (snapshotOf b) call) 32
-unfolding perform inserted sealedWith startedOwn startedSpeculation reportedOwn reportedSpeculation committedBy refusalOf
-performed-refusal b (insert job) = refl
-performed-refusal b (seal switch) = refl
-performed-refusal b (startOwn j) = refl
-performed-refusal b (startSpeculation j) = refl
-performed-refusal b (reportOwn j values wrote) = refl
-performed-refusal b (reportSpeculation j values wrote) = refl
-performed-refusal b (commit j) = refl
 
 -- A counted report's mark is the one that the record holds.
 stage-mark : {job : Job} {e : Entry} {run : Run} {c r p : ℕ} → Stage job e run c r p → (k : Counted) → e .counted ≡ some k
@@ -56,12 +46,11 @@ module _ {b : Batch} {l : Ledger} (agree : Faithful b l) where
   -- R170: each call is accepted exactly where the rules allow it, and else refused with their number.
   pub exact-refusal : (call : Call) → perform b call .refusal ≡ judged l call
   exact-refusal call =
-      performed-refusal b call
-      ∙ rw (faithful-form agree)
-      (ap (λ (s : Snapshot). refusalOf s call) (same-snapshot agree)
+      refusal-in-form b call (faithful-form agree)
+      ∙ ap (λ (s : Snapshot). refusalOf s call) (same-snapshot agree)
       ∙ sym
       (same-refusal (snapshotOfLedger l) (l .jobCount) (λ j. jobAt (b .jobs) j) (λ j h. sym (agree .jobs-are j h)) call
-      (held-alike (l .jobCount) call)))
+      (held-alike (l .jobCount) call))
 
   -- A job is settled where it has a counted report, with that report's mark.
   pub settled-counted : (j : ℕ) → committedAt b j ≡ isSome (l .entry j .counted)

@@ -1,0 +1,160 @@
+-- What an accepted insert does to a batch: the proof.
+use Prim.Native.Nat.{ℕ, suc, _<_, _≤_}
+use native.Mathlib.Omega.{arith}
+use native.Mathlib.Numerals.{add-one}
+use mathlib.Core.Logic.{_≢_}
+use mathlib.Core.Bool.{true, false, not, cond}
+use mathlib.Core.List.{List}
+use mathlib.Core.Path.{_≡_, refl, sym, ap, _∙_}
+use lib.IntN.{ℤ, pos}
+use lib.ListN.{length, getD, set, replicate}
+use lib.Seq.{getD-set-same, getD-set-other}
+use Rattle.dependence.specs.declared.Job.{Job}
+use Rattle.dependence.specs.Job.{noJob, jobAt}
+use Rattle.rules.specs.Snapshot.{Snapshot, isLive}
+use Rattle.rules.specs.Speculation.{validity}
+use Rattle.rules.specs.Call.{Call, insert, startOwn}
+use Rattle.engine.specs.declared.Batch.{Batch}
+use Rattle.engine.specs.Record.{noRun, blankRun, committedAt, snapshotOf}
+use Rattle.engine.specs.Form.{inForm}
+use Rattle.engine.specs.Opening.{withInserted, insertRefusal, inserted}
+use Rattle.engine.specs.OpeningLaws.{insert-place}
+use Rattle.engine.specs.Ask.{shownMark, shownJob, askedJob, cellRefusal, askedCell, isFinished, askedBatch}
+use Rattle.engine.specs.AskLaws.{finished-means, gains-unfinished}
+use Rattle.engine.specs.Perform.{perform}
+use Rattle.claims.specs.Ledger.{Ledger, Entry, noEntry, isSome, isCounted, ownIsOut, guessPhase, snapshotOfLedger, enter}
+use Rattle.claims.specs.Trace.{batchOf}
+use Rattle.claims.specs.Added.{grown, untried, Added, AddedStatement}
+use Rattle.theorem.specs.SameRefusal.{withJobs, validity-same}
+use Rattle.theorem.specs.Faithful.{Faithful, faithful-form, same-snapshot}
+use Rattle.theorem.specs.Agreement.{inserted-kept}
+use Rattle.theorem.specs.Promises.{settled-counted, own-may-start}
+use Rattle.theorem.specs.AsAsked.{asked-job}
+use Rattle.theorem.specs.Always.{sound-always}
+
+-- An accepted insert leaves the record with the job.
+pub insert-leaves : (b : Batch) (job : Job) → insertRefusal b job ≡ 0 → perform b (insert job) .batch ≡ withInserted b job
+unfolding perform inserted
+insert-leaves b job e = rw e
+
+module _ {b : Batch} {l : Ledger} (agree : Faithful b l) (job : Job) (e : insertRefusal b job ≡ 0) where
+  -- The record and the ledger agree after it too.
+  pub agrees-after : Faithful (withInserted b job) (enter l (insert job) (replicate 4 (pos 0)))
+  agrees-after = inserted-kept agree job (replicate 4 (pos 0)) e
+
+  place : b .«job_count» < 128
+  place = insert-place b job e
+
+  -- Another place holds what it held.
+  pub elsewhere : (j : ℕ) → j < l .jobCount → j ≢ b .«job_count»
+  elsewhere j h q = omega (arith, agree .job-count, q)
+
+  pub jobs-before : (j : ℕ) → j < l .jobCount → jobAt (withInserted b job .jobs) j ≡ jobAt (b .jobs) j
+  unfolding withInserted
+  jobs-before j h = getD-set-other (b .jobs) (b .«job_count») j job noJob (elsewhere j h)
+
+  -- What does not depend on the number of jobs, nor on those past the ledger's, is as it was.
+  pub unnoticed : {A : Type 0} (f : Snapshot → A)
+      → ((count : ℕ) (g : ℕ → Job) → l .jobCount ≤ count → ((i : ℕ) → i < l .jobCount → l .job i ≡ g i)
+      → f (snapshotOfLedger l) ≡ f (withJobs (snapshotOfLedger l) count g))
+      → f (snapshotOf (withInserted b job)) ≡ f (snapshotOf b)
+  unfolding enter
+  unnoticed f depends =
+      ap f (same-snapshot agrees-after)
+      ∙ sym
+      (depends (suc (l .jobCount)) (λ i. jobAt (withInserted b job .jobs) i) (omega arith)
+      (λ i h. sym (jobs-before i h ∙ agree .jobs-are i h)))
+      ∙ depends (l .jobCount) (λ i. jobAt (b .jobs) i) (omega arith) (λ i h. sym (agree .jobs-are i h))
+      ∙ sym (ap f (same-snapshot agree))
+
+  -- R179: the batch has one job more, and is not finished.
+  grows : askedBatch (withInserted b job) ≡ grown (askedBatch b)
+  unfolding askedBatch withInserted
+  grows =
+      rw (
+        faithful-form agrees-after,
+        faithful-form agree,
+        gains-unfinished b job (omega (arith, place, agree .committed-length)),
+        add-one (b .«job_count»),
+      )
+
+  -- The job is as given, and no step was taken on it.
+  new-job : shownJob (withInserted b job) (b .«job_count») ≡ untried job
+  unfolding shownJob validity withInserted
+  new-job =
+      let n = b .«job_count» in
+      rw (
+        getD-set-same (b .committed) n 0 0 (omega (arith, place, agree .committed-length)),
+        getD-set-same (b .runs) n blankRun noRun (omega (arith, place, agree .runs-length)),
+        getD-set-same (b .running) n 0 0 (omega (arith, place, agree .running-length)),
+        getD-set-same (b .phase) n 0 0 (omega (arith, place, agree .phase-length)),
+        getD-set-same (b .jobs) n job noJob (omega (arith, place, agree .jobs-length)),
+      )
+
+  -- An earlier job is shown as it was.
+  old-validity : (j : ℕ) → j < l .jobCount → validity (snapshotOf (withInserted b job)) j ≡ validity (snapshotOf b) j
+  old-validity j h =
+      unnoticed (λ s. validity s j) (λ count g more same. validity-same (snapshotOfLedger l) count g same j h)
+
+  old-job : (j : ℕ) → j < l .jobCount → shownJob (withInserted b job) j ≡ shownJob b j
+  unfolding shownJob withInserted
+  old-job j h =
+      let n = b .«job_count» in
+      let other = elsewhere j h in
+      rw (
+        old-validity j h,
+        getD-set-other (b .committed) n j 0 0 other,
+        getD-set-other (b .runs) n j blankRun noRun other,
+        getD-set-other (b .running) n j 0 0 other,
+        getD-set-other (b .phase) n j 0 0 other,
+        getD-set-other (b .jobs) n j job noJob other,
+      )
+
+  -- So is every cell.
+  old-cell : (x : ℕ) → askedCell (withInserted b job) x ≡ askedCell b x
+  unfolding askedCell cellRefusal withInserted
+  old-cell x = rw (faithful-form agrees-after, faithful-form agree)
+
+  -- R181: where all others are settled, its own run may be started.
+  finished-told : askedBatch b .finished ≡ isFinished b
+  unfolding askedBatch
+  finished-told = rw (faithful-form agree)
+
+  count-told : askedBatch b .«job_count» ≡ l .jobCount
+  unfolding askedBatch
+  count-told = rw (faithful-form agree) (agree .job-count)
+
+  starts : isFinished b ≡ true → perform (withInserted b job) (startOwn (l .jobCount)) .refusal ≡ 0
+  unfolding enter
+  starts finished =
+      let f = finished-means b finished in
+      let new : l .entry (l .jobCount) ≡ noEntry = agree .nothing-beyond (l .jobCount) (omega arith) in
+      own-may-start agrees-after
+      (sym (ap (λ (s : Snapshot). s .sealed) (same-snapshot agree)) ∙ ap not (f .is-sealed))
+      (l .jobCount) (omega arith)
+      (ap isCounted new)
+      (λ i h. sym (settled-counted agree i) ∙ f .all-settled i (omega (arith, agree .job-count)))
+      (ap ownIsOut new)
+      (ap (λ (n : Entry). isLive (guessPhase (n .guess))) new)
+
+  added : Added job b (withInserted b job)
+  unfolding enter
+  added =
+      record {
+        grows = grows;
+        as-given =
+            ap (askedJob (withInserted b job)) (count-told ∙ sym (agree .job-count))
+            ∙ asked-job agrees-after (b .«job_count») (omega (arith, agree .job-count))
+            ∙ new-job;
+        jobs-stay = λ j h.
+            let held : j < l .jobCount = omega (arith, count-told) in
+            asked-job agrees-after j (omega arith) ∙ old-job j held ∙ sym (asked-job agree j held);
+        cells-stay = old-cell;
+        next-step = λ t.
+            ap (λ (n : ℕ). perform (withInserted b job) (startOwn n) .refusal) count-told ∙ starts (sym finished-told ∙ t);
+      }
+
+pub job-added : AddedStatement
+unfolding perform inserted
+job-added heights calls e job accepted =
+    rw (insert-leaves (batchOf heights calls) job accepted) (added (sound-always heights calls e .agree) job accepted)
