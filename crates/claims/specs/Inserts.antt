@@ -1,9 +1,10 @@
 -- R162: the ledger's jobs are those of the accepted inserts, in their order, wherever in the list these stand. (Proved as
 -- `jobs-inserted`.) So two lists inserted the same jobs where their accepted inserts are the same, one before its seal and the
--- other after it. (Proved as `same-inserts`.)
+-- other after it. (Proved as `same-inserts`.) And an insert might as well have come before all other calls (R182, proved as
+-- `inserts-first`).
 use Prim.Native.Nat.{ℕ, _<_}
 use mathlib.Core.Bool.{cond}
-use mathlib.Core.List.{List, [], _∷_, _++_}
+use mathlib.Core.List.{List, [], _∷_, _++_, map}
 use mathlib.Core.Path.{_≡_}
 use lib.IntN.{ℤ}
 use lib.ListN.{length}
@@ -49,3 +50,28 @@ SameInsertsStatement =
     → insertsOf heights first ≡ insertsOf heights second
     → (rule : ℕ → List ℤ → Report) → Follows rule (ledgerOf heights first) → Follows rule (ledgerOf heights second)
     → EndAlike (length heights) (length (insertsOf heights first)) (batchOf heights first) (batchOf heights second)
+
+-- A call that is no insert.
+abbrev pub otherOf : Call → List Call
+otherOf (insert job) = []
+otherOf (seal switch) = seal switch ∷ []
+otherOf (startOwn j) = startOwn j ∷ []
+otherOf (startSpeculation j) = startSpeculation j ∷ []
+otherOf (reportOwn j values wrote) = reportOwn j values wrote ∷ []
+otherOf (reportSpeculation j values wrote) = reportSpeculation j values wrote ∷ []
+otherOf (commit j) = commit j ∷ []
+
+-- The accepted calls that are none.
+unfoldable pub othersOf : List Event → List Call
+othersOf [] = []
+othersOf (e ∷ events) = cond (e .accepted) (otherOf (e .call)) [] ++ othersOf events
+
+-- The accepted inserts, in their order, and then the other accepted calls in theirs.
+abbrev pub insertsFirst : List Event → List Call
+insertsFirst events = map insert (jobsOf events) ++ othersOf events
+
+-- R182, for every accepted opening and every list of calls: these leave the same record.
+abbrev pub InsertsFirstStatement : Type 0
+InsertsFirstStatement =
+    (heights : List ℤ) (calls : List Call) → opened heights .refusal ≡ 0
+    → batchOf heights calls ≡ batchOf heights (insertsFirst (eventsOf (opened heights .batch) calls))

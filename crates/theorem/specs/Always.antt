@@ -130,14 +130,15 @@ opened-right heights e =
     (λ t. absurd (omega (arith, rw t at e)))
     (λ f. rw f (fresh-right heights))
 
--- From an accepted opening, whatever is called.
-pub sound-always : (heights : List ℤ) (calls : List Call) → opened heights .refusal ≡ 0
-    → Sound (batchOf heights calls) (ledgerOf heights calls)
-sound-always heights calls e =
-    sound-after
-    (record {
+pub opened-sound : (heights : List ℤ) → opened heights .refusal ≡ 0 → Sound (opened heights .batch) (emptyLedger heights)
+opened-sound heights e =
+    record {
       agree = opened-faithful heights e;
       right = opened-right heights e;
       shaped = λ j. nothing-shaped (emptyLedger heights .job j);
-    })
-    calls
+    }
+
+-- From an accepted opening, whatever is called.
+pub sound-always : (heights : List ℤ) (calls : List Call) → opened heights .refusal ≡ 0
+    → Sound (batchOf heights calls) (ledgerOf heights calls)
+sound-always heights calls e = sound-after (opened-sound heights e) calls

@@ -208,7 +208,7 @@ module _ {b : Batch} {l : Ledger} (sound : Sound b l) (job : Job) {call : Call} 
       exchange-by b (refused-stays b (insert job) f) refl refl
       (sym (performed-batch b call) ∙ sym (refused-stays (perform b call .batch) (insert job) (ap (λ (r : ℕ). eqb r 0) insert-after ∙ f)))
 
-  exchange : Exchange b (insert job) call
+  pub exchange : Exchange b (insert job) call
   exchange =
       if-or (accepts b (insert job))
       (λ t. accepted-exchange (eqb-true (perform b (insert job) .refusal) 0 t))

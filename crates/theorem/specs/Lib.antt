@@ -20,6 +20,7 @@ pub mod Always
 pub mod Outcome
 pub mod Added
 pub mod Exchange
+pub mod InsertsFirst
 pub mod Theorem
 pub mod StepCount
 pub mod SameJob
