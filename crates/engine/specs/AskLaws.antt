@@ -96,5 +96,5 @@ pub gains-unfinished : (b : Batch) (job : Job) → b .«job_count» < length (b 
 unfolding isFinished withInserted
 gains-unfinished b job h =
     rw (any-found (b .«job_count» + 1) (b .«job_count») (uncommittedAt (withInserted b job)) (omega arith)
-      (rw (getD-set-same (b .committed) (b .«job_count») 0 0 h)))
+    (rw (getD-set-same (b .committed) (b .«job_count») 0 0 h)))
     (and-false (not (eqb (b .sealed) 0)))

@@ -1,5 +1,5 @@
--- The worked examples P1 to P9 and P11 as one table, shown by one theorem about the definitions.
--- The rows behind P11 are points of the same plans at which a call is refused, and a job of four accesses.
+-- The worked examples P1 to P9, P11 and P12 as one table, shown by one theorem about the definitions.
+-- The rows behind P12 are points of the same plans at which a call is refused, and a job of four accesses.
 use Prim.Native.Nat.{ℕ, zero, suc}
 use mathlib.Core.Bool.{Bool, true, false}
 use mathlib.Core.List.{List, [], _∷_}
@@ -16,7 +16,7 @@ use Rattle.dependence.specs.Conflict.{touches, conflicts}
 use Rattle.admission.specs.Admission.{kindModes, jobRefusal}
 use Rattle.kinds.specs.Kinds.{reported, tableOf, resultOf}
 use Rattle.jobset.specs.JobSet.{bit, withBit, hasJob, withJob, reachesTo}
-use Rattle.rules.specs.Values.{writeBack}
+use Rattle.rules.specs.Values.{valueBelow, writeBack}
 use Rattle.rules.specs.Walk.{sourceBelow}
 use Rattle.rules.specs.Speculation.{isReady, invalidBelow, isInvalid, validity}
 use Rattle.walk.specs.Sources.{setOf}
@@ -24,12 +24,12 @@ use Rattle.engine.specs.Form.{jobOut, inForm}
 use Rattle.engine.specs.Opening.{opened, withInserted, inserted, withSealed, sealedWith}
 use Rattle.engine.specs.Steps.{withJobChanged, startedOwn, startedSpeculation, reportedOwn, reportedSpeculation, committedBy}
 use Rattle.engine.specs.Perform.{perform}
-use Rattle.engine.specs.Ask.{cellRefusal, askedCell, jobAskRefusal, shownJob, askedJob}
+use Rattle.engine.specs.Ask.{cellRefusal, askedCell, jobAskRefusal, shownJob, askedJob, isFinished, askedBatch}
 use Rattle.tally.specs.declared.Tally.{Tally}
 use Rattle.tally.specs.Tally.{tallyBelow, given, tallied}
 use Rattle.tally.specs.Examples.{numbers}
 use Rattle.examples.specs.Plan.{Line, insertion, sealing, step, ownReport, speculationReport, Plan, first, _then_}
-use Rattle.examples.specs.Plan.{answerTo, answersTo, answersIn, afterAll, final, settledIn}
+use Rattle.examples.specs.Plan.{answerTo, answersTo, answersIn, afterAll, final, settledIn, heldIn}
 
 -- What a row says.
 pub data Example : Type 0 where
@@ -47,6 +47,8 @@ pub data Example : Type 0 where
   judged : Plan → ℕ → ℕ → Example
   -- after the plan: the tally, as jobs, guesses started, kept, thrown away, and the rest
   tally : Plan → Tally → Example
+  -- after the plan: how many jobs there are, and whether the batch is finished
+  held : Plan → ℕ → Bool → Example
   -- after the plan: one line more, and the answer to it
   next : Plan → Line → ℕ → Example
 
@@ -58,6 +60,7 @@ Holds (settled plan j how mark) = settledIn (final plan) j ≡ record { how = ho
 Holds (height plan x value) = askedCell (final plan) x .height ≡ value
 Holds (judged plan j number) = askedJob (final plan) j .validity ≡ number
 Holds (tally plan numbers) = tallied (final plan) ≡ given numbers
+Holds (held plan jobs finished) = heldIn (final plan) ≡ record { jobs = jobs; finished = finished }
 Holds (next plan line answer) = answerTo (final plan) line ≡ answer
 
 -- The kinds by their names.
@@ -127,6 +130,16 @@ plan8 = record {
       ∷ step 4 1
       ∷ [];
 }
+
+-- P12: a job that comes when P8's batch is finished, and the same job when its two runs are out.
+abbrev late : Line
+late = insertion (jobOn shift (pos 5) 0)
+
+abbrev planLate : Plan
+planLate = plan8 then late then step 0 2 then step 2 2
+
+abbrev planMeanwhile : Plan
+planMeanwhile = first 5 plan8 then late then step 3 1 then step 1 2 then step 3 2 then step 2 0 then step 4 1 then step 4 2
 
 -- P9: a height below the floor. The floor's own run starts, both shifts are guessed, and the floor reports.
 abbrev plan9 : Plan
@@ -231,6 +244,22 @@ table =
     ∷ tally plan8 (numbers 2 1 1 0 0)
     ∷ tally plan9 (numbers 3 2 0 0 2)
     ∷ tally (plan9 then step 0 1) (numbers 3 2 0 1 1)
+    -- P12 a job that comes late: the batch is finished, has a job more and is not, and is again with that job settled. The
+    -- same job, come in while runs are out, is guessed; the cells are the same.
+    ∷ held plan8 2 true
+    ∷ held (plan8 then late) 3 false
+    ∷ next (plan8 then late) (sealing 1) 2
+    ∷ answers planLate (0 ∷ 0 ∷ 0 ∷ 0 ∷ 0 ∷ 0 ∷ 0 ∷ 0 ∷ 0 ∷ 0 ∷ 0 ∷ [])
+    ∷ settled planLate 2 1 0
+    ∷ held planLate 3 true
+    ∷ height planLate 0 (pos 1525)
+    ∷ height planLate 1 (pos 1480)
+    ∷ next (first 6 planMeanwhile) (step 1 2) 15
+    ∷ answers planMeanwhile (0 ∷ 0 ∷ 0 ∷ 0 ∷ 0 ∷ 0 ∷ 0 ∷ 0 ∷ 0 ∷ 0 ∷ 0 ∷ 0 ∷ [])
+    ∷ settled planMeanwhile 2 2 0
+    ∷ held planMeanwhile 3 true
+    ∷ height planMeanwhile 0 (pos 1525)
+    ∷ height planMeanwhile 1 (pos 1480)
     -- R45: no guess is started; it is out, and stored, and the job is not ready; the job is ready and the guess stands, and
     -- does so once the job is settled by it; it is thrown away.
     ∷ judged (first 4 plan8) 1 0
@@ -289,9 +318,9 @@ table =
 -- The one theorem: every row of the table holds.
 pub examples-hold : AllHold Holds table
 unfolding resultOf tableOf conflicts touches
-    perform answersTo afterAll cellRefusal askedCell jobAskRefusal shownJob askedJob opened inserted sealedWith startedOwn startedSpeculation reportedOwn reportedSpeculation committedBy
+    perform answersTo afterAll cellRefusal askedCell jobAskRefusal shownJob askedJob isFinished askedBatch opened inserted sealedWith startedOwn startedSpeculation reportedOwn reportedSpeculation committedBy
     withInserted withSealed withJobChanged inForm jobOut jobRefusal firstOf isReady isInvalid invalidBelow validity
-    sourceBelow setOf writeBack bit withBit hasJob withJob reachesTo anyBelow foldBelow tallied tallyBelow countBelow
+    sourceBelow valueBelow setOf writeBack bit withBit hasJob withJob reachesTo anyBelow foldBelow tallied tallyBelow countBelow
 examples-hold =
     refl also refl  -- P1
     also refl also refl  -- P2
@@ -303,6 +332,8 @@ examples-hold =
     also refl also refl also refl also refl also refl  -- P8
     also refl also refl also refl also refl also refl also refl also refl  -- P9
     also refl also refl also refl also refl also refl also refl  -- P11
+    also refl also refl also refl also refl also refl also refl also refl also refl  -- P12, after the end
+    also refl also refl also refl also refl also refl also refl  -- P12, meanwhile
     also refl also refl also refl also refl also refl also refl  -- how a guess is judged
     also refl  -- 12
     also refl also refl  -- 13, start own

@@ -58,7 +58,7 @@ fn follow(batch: Batch, choice: Choice) -> Batch {
 }
 
 /// What the chooser names, or where it names nothing a report.
-fn turn(batch: Batch) -> Batch {
+pub fn turn(batch: Batch) -> Batch {
     let choice = batch.choose();
     if choice.refusal != 0 {
         say::line(b"chosen: none, ", choice.refusal);

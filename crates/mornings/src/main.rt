@@ -1,7 +1,8 @@
-//! Two mornings of the harbour and a third by the chooser, told call by call.
+//! Two mornings of the harbour, a third by the chooser and one with late jobs, told call by call.
 
 mod chosen;
 mod jobs;
+mod late;
 mod tell;
 mod week;
 
@@ -10,4 +11,5 @@ fn main() {
     week::monday();
     week::thursday();
     chosen::morning();
+    late::morning();
 }

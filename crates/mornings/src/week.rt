@@ -5,9 +5,9 @@ use crate::tell;
 use engine::Batch;
 
 /// The spike test's job number.
-const TEST: usize = 0;
+pub const TEST: usize = 0;
 /// The datum shift's job number.
-const SHIFT: usize = 1;
+pub const SHIFT: usize = 1;
 
 pub fn what_to_look_for() {
     say::text(b"# what to look for\n");
@@ -20,12 +20,15 @@ pub fn what_to_look_for() {
         b"The third morning: the chooser names each step, and where it names none a run is reported.\n",
     );
     say::text(
+        b"Monday again: jobs that come late, at whatever moment, are the last of the list.\n",
+    );
+    say::text(
         b"After each call: 0 or the refusal, then what was handed out or reported, or the job's first cell after it.\n",
     );
 }
 
 /// The two jobs inserted and sealed.
-fn planned(heights: [i32; 2]) -> Batch {
+pub fn planned(heights: [i32; 2]) -> Batch {
     let opened = tell::open(&heights);
     let tested = tell::insert(opened, b"insert spike 1000 on cells 0 1: ", jobs::spike());
     let shifted = tell::insert(tested, b"insert shift 20 on cell 0: ", jobs::shift(0, 20));

@@ -12,6 +12,8 @@ pub enum Point {
     Opened,
     /// The same, sealed.
     SealedEmpty,
+    /// The same, and then a floor inserted.
+    SealedThenOne,
     /// A floor and two shifts behind it on one cell.
     Unsealed,
     /// These, sealed with guessing off.
@@ -39,6 +41,7 @@ pub fn at(point: Point) -> Batch {
     match point {
         Point::Opened => opened(),
         Point::SealedEmpty => with_seal(opened(), 1),
+        Point::SealedThenOne => with_job(with_seal(opened(), 1), jobs::floor()),
         Point::Unsealed => unsealed(),
         Point::GuessingOff => sealed(0),
         Point::Sealed => sealed(1),
@@ -63,7 +66,7 @@ fn with_job(batch: Batch, job: dependence::Job) -> Batch {
     answer.batch
 }
 
-fn with_seal(batch: Batch, switch: u8) -> Batch {
+pub fn with_seal(batch: Batch, switch: u8) -> Batch {
     let answer = batch.seal(switch);
     answer.batch
 }

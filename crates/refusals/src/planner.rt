@@ -54,17 +54,38 @@ pub fn opening() {
 
 pub fn inserting() {
     say::text(b"# the planner: inserting\n");
-    insert(
-        b"insert after sealing: ",
-        batches::at(Point::Sealed),
-        jobs::floor(),
-    );
     let full = insert(
         b"insert the 128th job: ",
         batches::nearly_full(),
         jobs::floor(),
     );
     insert(b"insert one job more: ", full, jobs::floor());
+    late();
+    let sealed = batches::with_seal(full, 1);
+    insert(
+        b"insert one job more after sealing: ",
+        sealed,
+        jobs::floor(),
+    );
+}
+
+/// Jobs that come when the batch is sealed.
+fn late() {
+    insert(
+        b"insert after sealing: ",
+        batches::at(Point::Sealed),
+        jobs::floor(),
+    );
+    insert(
+        b"insert with runs out: ",
+        batches::at(Point::GuessOut),
+        jobs::floor(),
+    );
+    insert(
+        b"insert a job of no access after sealing: ",
+        batches::at(Point::Sealed),
+        jobs::reader(0),
+    );
 }
 
 /// Refusals 4 to 8.
@@ -90,4 +111,9 @@ pub fn sealing() {
     seal(b"seal with guess switch 1: ", Point::Unsealed, 1);
     seal(b"seal with guess switch 2: ", Point::Unsealed, 2);
     seal(b"seal after sealing: ", Point::Sealed, 1);
+    seal(
+        b"seal after sealing and an insert: ",
+        Point::SealedThenOne,
+        1,
+    );
 }

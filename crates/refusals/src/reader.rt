@@ -65,4 +65,7 @@ pub fn finishing() {
     progress(b"no jobs, not sealed: ", Point::Opened);
     progress(b"no jobs, sealed: ", Point::SealedEmpty);
     worker::choose(b"choose, no jobs: ", Point::SealedEmpty);
+    progress(b"no jobs, sealed, and then one: ", Point::SealedThenOne);
+    worker::choose(b"choose, that job: ", Point::SealedThenOne);
+    worker::start_own(b"start own 0, that job: ", Point::SealedThenOne, 0);
 }
