@@ -1,14 +1,14 @@
 -- What an accepted question promises, and what it means to be finished.
 use Prim.Native.Nat.{ℕ, _+_, _-_, _<_, _≤_}
 use native.Mathlib.Omega.{arith}
-use mathlib.Core.Bool.{Bool, true, false, not}
+use mathlib.Core.Bool.{Bool, true, false, not, _&&_}
 use mathlib.Core.List.{List, [], _++_, append-assoc, append-nil}
 use mathlib.Core.Path.{_≡_, refl, sym, ap, _∙_}
 use lib.Dec.{eqb, leb, ltb}
 use lib.ListN.{length, take, drop, length-drop}
 use lib.Seq.{paste, take-all, drop-length, drop-drop, getD-set-same}
 use borrow.Author.Tests.{ltb-false, leb-false}
-use Rattle.laws.specs.SearchLaws.{if-or, any-found, any-fails, any-absent, and-left, and-right, not-true, and-false}
+use Rattle.laws.specs.SearchLaws.{if-or, any-found, any-fails, any-absent, and-left, and-right, not-true}
 use Rattle.dependence.specs.declared.Job.{Job}
 use Rattle.engine.specs.declared.Batch.{Batch}
 use Rattle.engine.specs.Record.{committedAt}
@@ -95,6 +95,10 @@ means-finished b f =
 pub gains-unfinished : (b : Batch) (job : Job) → b .«job_count» < length (b .committed) → isFinished (withInserted b job) ≡ false
 unfolding isFinished withInserted
 gains-unfinished b job h =
-    rw (any-found (b .«job_count» + 1) (b .«job_count») (uncommittedAt (withInserted b job)) (omega arith)
+    one-left (not (eqb (withInserted b job .sealed) 0))
+    (any-found (b .«job_count» + 1) (b .«job_count») (uncommittedAt (withInserted b job)) (omega arith)
     (rw (getD-set-same (b .committed) (b .«job_count») 0 0 h)))
-    (and-false (not (eqb (b .sealed) 0)))
+  where
+    one-left : (closed : Bool) {left : Bool} → left ≡ true → (closed && not left) ≡ false
+    one-left true e = ap not e
+    one-left false e = refl
