@@ -45,12 +45,7 @@ impl Call {
     pub fn on_batch(&self, batch: &mut Batch) -> Answer {
         let answer = match *self {
             Call::Insert(job) => {
-                let access = |&(cell, mode): &(u8, u8)| Access {
-                    cell: u32::from(cell),
-                    mode: u32::from(mode),
-                };
-                let accesses: Vec<Access> = job.used().iter().map(access).collect();
-                let inserted = batch.insert(u32::from(job.kind), job.parameter, &accesses);
+                let inserted = batch.insert(u32::from(job.kind), job.parameter, &accesses(&job));
                 inserted.map(|()| NOTHING)
             }
             Call::Seal(guessing) => batch.seal(u32::from(guessing)).map(|()| NOTHING),
@@ -66,6 +61,18 @@ impl Call {
             Err(refusal) => (refusal as u8, NOTHING),
         }
     }
+}
+
+/// As many accesses as the job says, though it has places for four (R104).
+fn accesses(job: &Job) -> Vec<Access> {
+    let access = |place: usize| {
+        let (cell, mode) = job.accesses.get(place).copied().unwrap_or_default();
+        Access {
+            cell: u32::from(cell),
+            mode: u32::from(mode),
+        }
+    };
+    (0..usize::from(job.arity)).map(access).collect()
 }
 
 fn step(
@@ -85,11 +92,15 @@ fn step(
     }
 }
 
+/// R2: as many jobs a batch holds.
+const FULL: usize = 128;
+
 /// What a list is like.
 pub struct Manner {
     /// The heights to open with.
     pub heights: Vec<i32>,
-    /// The jobs to insert, in this order; all of them are sound.
+    /// The jobs to insert, in this order; all of them are sound, but there may be
+    /// one more than the batch holds.
     jobs: Vec<Job>,
     /// How many of them come in before the seal. The others come when the batch is
     /// finished, each time one, and at their pace before that.
@@ -110,26 +121,27 @@ pub struct Manner {
 }
 
 impl Manner {
-    /// Mostly few cells, so that jobs have to wait for each other. Half of the lists
-    /// insert all jobs before they seal, and a quarter seal at once.
+    /// Mostly few cells, so that jobs have to wait for each other. A third of the
+    /// lists insert all jobs before they seal, and a third seal at once.
     pub fn any(dice: &mut Dice) -> Manner {
         let cells = dice.pick(&[1, 2, 3, 4, 5, 6, 7, 64]);
         let jobs = match dice.below(30) {
             0 => 0,
-            1 => 128,
+            1 => FULL + 1,
             _ => dice.below(14),
+        };
+        let early = match dice.below(3) {
+            0 => 0,
+            1 => dice.below(jobs + 1),
+            _ => jobs,
         };
         Manner {
             heights: (0..cells).map(|_| height(dice)).collect(),
             jobs: (0..jobs).map(|_| sound_job(dice, cells)).collect(),
-            early: match dice.below(4) {
-                0 => 0,
-                1 => dice.below(jobs + 1),
-                _ => jobs,
-            },
+            early: early.min(FULL),
             guessing: u8::from(dice.percent(92)),
             by_rule: false,
-            pace: dice.pick(&[0, 2, 10, 50]),
+            pace: dice.pick(&[0, 10, 20, 40]),
             wild: dice.pick(&[0, 5, 20]),
             eager: dice.pick(&[20, 50, 80]),
             writes: dice.pick(&[0, 10, 40]),
@@ -148,12 +160,12 @@ impl Manner {
         };
         let (one, other) = (calm(dice), calm(dice));
         let first = Manner {
-            early: one.jobs.len(),
+            early: one.jobs.len().min(FULL),
             ..one
         };
         let second = Manner {
             heights: first.heights.clone(),
-            early: dice.below(first.jobs.len().max(1)),
+            early: dice.below(first.early.max(1)),
             jobs: first.jobs.clone(),
             ..other
         };
@@ -165,9 +177,10 @@ impl Manner {
         9 * self.jobs.len() + 6
     }
 
-    /// Whether all jobs have come in and are settled.
+    /// Whether all jobs that the batch can hold have come in and are settled.
     pub fn is_done(&self, record: &Record) -> bool {
-        usize::from(record.job_count) >= self.jobs.len() && record.ask_batch().finished
+        let all = self.jobs.len().min(FULL);
+        usize::from(record.job_count) >= all && record.ask_batch().finished
     }
 
     /// The call that comes next.
@@ -252,7 +265,7 @@ impl Manner {
         let mut job = sound_job(dice, self.heights.len());
         match dice.below(10) {
             0 => job.kind = dice.below(9) as u8,
-            1 => job.arity = dice.below(5) as u8,
+            1 => job.arity = dice.pick(&[0, 1, 2, 3, 4, 5, 255]),
             2 => job.accesses[0].0 = self.heights.len() as u8,
             3 => job.accesses[0].1 = dice.below(4) as u8,
             4 => {

@@ -68,8 +68,7 @@ impl Both {
     fn with_added(&self, job: Job) -> Both {
         let mut after = self.clone();
         assert_eq!(after.make(&Call::Insert(job)).0, 0);
-        let (before, told) = (self.asked(), self.told());
-        let mut due = before;
+        let mut due = self.asked();
         due.batch.job_count += 1;
         due.batch.finished = false;
         due.jobs.push(JobAnswer {
@@ -77,13 +76,14 @@ impl Both {
             ..JobAnswer::default()
         });
         assert_eq!(after.asked(), due);
-        let number = told.len();
-        let mut told_after = after.told();
-        let (inserted, settled, judged, guess, own) = told_after.pop().unwrap();
-        assert_eq!(told_after, told);
+        let mut told = after.told();
+        let (inserted, settled, judged, guess, own) = told.pop().unwrap();
+        assert_eq!(told, self.told());
         assert_eq!((settled, judged, guess, own), (Settled::No, 0, None, None));
-        assert_eq!((inserted.kind, inserted.p), (job.kind.into(), job.parameter));
-        assert_eq!(after.batch.job_count() as usize, number + 1);
+        assert_eq!(
+            (inserted.kind, inserted.p),
+            (job.kind.into(), job.parameter)
+        );
         assert!(!after.batch.finished());
         after
     }
@@ -189,8 +189,7 @@ fn a_job_is_added_at_any_moment() {
     assert!(times.iter().all(|&times| times > 100), "{times:?}");
 }
 
-/// R8, R171: a batch that is finished again and again, and four steps for a job that
-/// came in late.
+/// R8: a batch that is sealed without jobs, and finished again after each of 128.
 #[test]
 fn finished_again_and_again() {
     let mut record = Record::open(&[0]).unwrap();

@@ -78,8 +78,8 @@ impl Worked {
         assert_eq!(self.record.ask_batch().finished, finished);
         if sealed && !finished {
             let accepted = |job, step| self.batch.would_answer(step, job) == Some(0);
-            let jobs = 0..self.batch.job_count();
-            assert!(jobs.into_iter().any(|job| (0..5).any(|step| accepted(job, step))));
+            let some_step = |job| (0..5).any(|step| accepted(job, step));
+            assert!((0..self.batch.job_count()).any(some_step));
         }
     }
 }
