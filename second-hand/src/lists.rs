@@ -197,8 +197,12 @@ impl Manner {
     }
 
     fn inserts_now(&self, dice: &mut Dice, record: &Record) -> bool {
+        let held = usize::from(record.job_count);
         if record.sealed == 0 {
-            usize::from(record.job_count) < self.early
+            held < self.early
+        } else if held == FULL {
+            // Refused, so only now and then.
+            dice.percent(2)
         } else {
             dice.percent(self.pace) || record.ask_batch().finished
         }
