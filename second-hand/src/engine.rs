@@ -156,12 +156,9 @@ impl Batch {
         Ok(Batch { cells: heights.to_vec(), jobs: Vec::new(), sealed: None })
     }
 
-    /// R6: adds the job as the last.
+    /// R6: adds the job as the last, before sealing or after it. It is later than
+    /// all others, so no rule of theirs looks at it but that of chains (R22).
     pub fn insert(&mut self, kind: u32, p: i32, accesses: &[Access]) -> Result<(), u32> {
-        // R102: sealed already.
-        if self.sealed.is_some() {
-            return Err(2);
-        }
         // R103: 128 jobs are held.
         if self.jobs.len() >= MOST_JOBS {
             return Err(3);
@@ -203,7 +200,7 @@ impl Batch {
         Ok(())
     }
 
-    /// R7: ends the inserting, with guessing off (0) or on (1).
+    /// R7: once for a batch, with guessing off (0) or on (1).
     pub fn seal(&mut self, guess: u32) -> Result<(), u32> {
         // R102: sealed already.
         if self.sealed.is_some() {
@@ -624,7 +621,7 @@ impl Batch {
         self.cells.len() as u32
     }
 
-    /// R8: sealed, and every job settled; also with no jobs at all.
+    /// R8: sealed, and every job settled; also with no jobs at all. An insert ends it.
     pub fn finished(&self) -> bool {
         self.sealed.is_some() && (0..self.jobs.len()).all(|job| self.is_settled(job))
     }

@@ -5,6 +5,7 @@
 pub mod engine;
 pub mod frame;
 pub mod kinds;
+pub mod ledger;
 pub mod lists;
 pub mod plan;
 pub mod plans;

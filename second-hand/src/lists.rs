@@ -1,7 +1,7 @@
-//! Random lists of calls on one batch (R160), most of them accepted, in which some
-//! guesses are kept, some thrown away, and some still out or stored wherever one
-//! stops. They follow from the dice, and from how the record stands before each
-//! call.
+//! Random lists of calls on one batch (R160), most of them accepted, in which jobs
+//! come in before the seal and after it, and some guesses are kept, some thrown
+//! away, and some still out or stored wherever one stops. They follow from the
+//! dice, and from how the record stands before each call.
 
 use crate::engine::{Access, Batch, Report};
 use crate::kinds;
@@ -21,33 +21,34 @@ pub enum Call {
     },
 }
 
+/// 0 or the refusal, and the values handed out, or four zeros where none are.
+pub type Answer = (u8, [i32; 4]);
+
+const NOTHING: [i32; 4] = [0; 4];
+
 impl Call {
-    /// Makes the call on a record: 0 or the refusal.
-    pub fn on_record(&self, record: &mut Record) -> u8 {
+    /// Makes the call on a record.
+    pub fn on_record(&self, record: &mut Record) -> Answer {
         match *self {
-            Call::Insert(job) => record.insert(job),
-            Call::Seal(guessing) => record.seal(guessing),
+            Call::Insert(job) => (record.insert(job), NOTHING),
+            Call::Seal(guessing) => (record.seal(guessing), NOTHING),
             Call::Step {
                 number,
                 job,
                 values,
                 mark,
-            } => record.step(number, job, values, mark).0,
+            } => record.step(number, job, values, mark),
         }
     }
 
-    /// Makes the call on a batch of `engine`: 0 or the refusal.
-    pub fn on_batch(&self, batch: &mut Batch) -> u32 {
+    /// Makes the call on a batch of `engine`.
+    pub fn on_batch(&self, batch: &mut Batch) -> Answer {
         let answer = match *self {
             Call::Insert(job) => {
-                let access = |&(cell, mode): &(u8, u8)| Access {
-                    cell: u32::from(cell),
-                    mode: u32::from(mode),
-                };
-                let accesses: Vec<Access> = job.used().iter().map(access).collect();
-                batch.insert(u32::from(job.kind), job.parameter, &accesses)
+                let inserted = batch.insert(u32::from(job.kind), job.parameter, &accesses(&job));
+                inserted.map(|()| NOTHING)
             }
-            Call::Seal(guessing) => batch.seal(u32::from(guessing)),
+            Call::Seal(guessing) => batch.seal(u32::from(guessing)).map(|()| NOTHING),
             Call::Step {
                 number,
                 job,
@@ -55,69 +56,155 @@ impl Call {
                 mark,
             } => step(batch, number, job as u32, values, u32::from(mark)),
         };
-        answer.err().unwrap_or(0)
+        match answer {
+            Ok(handed) => (0, handed),
+            Err(refusal) => (refusal as u8, NOTHING),
+        }
     }
 }
 
-fn step(batch: &mut Batch, number: u8, job: u32, values: [i32; 4], mark: u32) -> Result<(), u32> {
+/// As many accesses as the job says, though it has places for four (R104).
+fn accesses(job: &Job) -> Vec<Access> {
+    let access = |place: usize| {
+        let (cell, mode) = job.accesses.get(place).copied().unwrap_or_default();
+        Access {
+            cell: u32::from(cell),
+            mode: u32::from(mode),
+        }
+    };
+    (0..usize::from(job.arity)).map(access).collect()
+}
+
+fn step(
+    batch: &mut Batch,
+    number: u8,
+    job: u32,
+    values: [i32; 4],
+    mark: u32,
+) -> Result<[i32; 4], u32> {
     let report = Report { values, mark };
     match number {
-        0 => batch.start_own(job).map(|_handed| ()),
-        1 => batch.start_guess(job).map(|_handed| ()),
-        2 => batch.report_own(job, report),
-        3 => batch.report_guess(job, report),
-        _ => batch.settle(job),
+        0 => batch.start_own(job),
+        1 => batch.start_guess(job),
+        2 => batch.report_own(job, report).map(|()| NOTHING),
+        3 => batch.report_guess(job, report).map(|()| NOTHING),
+        _ => batch.settle(job).map(|()| NOTHING),
     }
 }
 
-/// What a list is like. The last three say how often in a hundred.
+/// R2: as many jobs a batch holds.
+const FULL: usize = 128;
+
+/// What a list is like.
 pub struct Manner {
     /// The heights to open with.
     pub heights: Vec<i32>,
-    /// How many jobs the batch is to hold before it is sealed.
-    jobs: usize,
+    /// The jobs to insert, in this order; all of them are sound, but there may be
+    /// one more than the batch holds.
+    jobs: Vec<Job>,
+    /// How many of them come in before the seal. The others come when the batch is
+    /// finished, each time one, and at their pace before that.
+    early: usize,
     guessing: u8,
+    /// Each report follows one rule of what its run was handed (R176); else it is
+    /// any.
+    by_rule: bool,
+    // How often in a hundred:
+    /// A call on a sealed, unfinished batch inserts, while there are jobs to come.
+    pace: usize,
     /// A call is any call at all.
     wild: usize,
     /// A step is one on a guess.
     eager: usize,
-    /// A job that may write reports that it has.
+    /// A job that may write reports that it has, where its report is any.
     writes: usize,
 }
 
 impl Manner {
-    /// Mostly few cells, so that jobs have to wait for each other.
+    /// Mostly few cells, so that jobs have to wait for each other. A third of the
+    /// lists insert all jobs before they seal, and a third seal at once.
     pub fn any(dice: &mut Dice) -> Manner {
         let cells = dice.pick(&[1, 2, 3, 4, 5, 6, 7, 64]);
+        let jobs = match dice.below(30) {
+            0 => 0,
+            1 => FULL + 1,
+            _ => dice.below(14),
+        };
+        let early = match dice.below(3) {
+            0 => 0,
+            1 => dice.below(jobs + 1),
+            _ => jobs,
+        };
         Manner {
             heights: (0..cells).map(|_| height(dice)).collect(),
-            jobs: match dice.below(30) {
-                0 => 0,
-                1 => 128,
-                _ => dice.below(14),
-            },
+            jobs: (0..jobs).map(|_| sound_job(dice, cells)).collect(),
+            early: early.min(FULL),
             guessing: u8::from(dice.percent(92)),
+            by_rule: false,
+            pace: dice.pick(&[0, 10, 20, 40]),
             wild: dice.pick(&[0, 5, 20]),
             eager: dice.pick(&[20, 50, 80]),
             writes: dice.pick(&[0, 10, 40]),
         }
     }
 
+    /// R176: two lists that insert the same jobs into the same cells, and report by
+    /// one rule. The first inserts all before it seals, the second some or all of
+    /// them after. In all else they may differ.
+    pub fn pair(dice: &mut Dice) -> [Manner; 2] {
+        let calm = |dice: &mut Dice| Manner {
+            guessing: u8::from(dice.percent(70)),
+            by_rule: true,
+            wild: 0,
+            ..Manner::any(dice)
+        };
+        let (one, other) = (calm(dice), calm(dice));
+        let first = Manner {
+            early: one.jobs.len().min(FULL),
+            ..one
+        };
+        let second = Manner {
+            heights: first.heights.clone(),
+            early: dice.below(first.early.max(1)),
+            jobs: first.jobs.clone(),
+            ..other
+        };
+        [first, second]
+    }
+
     /// About as many calls as settle every job.
     pub fn calls(&self) -> usize {
-        9 * self.jobs + 6
+        9 * self.jobs.len() + 6
+    }
+
+    /// Whether all jobs that the batch can hold have come in and are settled.
+    pub fn is_done(&self, record: &Record) -> bool {
+        let all = self.jobs.len().min(FULL);
+        usize::from(record.job_count) >= all && record.ask_batch().finished
     }
 
     /// The call that comes next.
     pub fn call(&self, dice: &mut Dice, record: &Record) -> Call {
         if dice.percent(self.wild) {
-            self.wild_call(dice, record)
-        } else if record.sealed == 1 {
-            self.fitting_step(dice, record)
-        } else if usize::from(record.job_count) < self.jobs {
-            Call::Insert(self.job(dice))
+            return self.wild_call(dice, record);
+        }
+        let held = usize::from(record.job_count);
+        match self.jobs.get(held) {
+            Some(&job) if self.inserts_now(dice, record) => Call::Insert(job),
+            _ if record.sealed == 0 => Call::Seal(self.guessing),
+            _ => self.fitting_step(dice, record),
+        }
+    }
+
+    fn inserts_now(&self, dice: &mut Dice, record: &Record) -> bool {
+        let held = usize::from(record.job_count);
+        if record.sealed == 0 {
+            held < self.early
+        } else if held == FULL {
+            // Refused, so only now and then.
+            dice.percent(2)
         } else {
-            Call::Seal(self.guessing)
+            dice.percent(self.pace) || record.ask_batch().finished
         }
     }
 
@@ -154,50 +241,92 @@ impl Manner {
                 (number, job) = (step, usize::from(named));
             }
         }
-        let may_write = job < held && record.jobs[job].has_maybe_write();
+        let Report { values, mark } = self.report(dice, record, job);
         Call::Step {
             number,
             job,
+            values,
+            mark: mark as u8,
+        }
+    }
+
+    /// What is reported of the run that the job holds.
+    fn report(&self, dice: &mut Dice, record: &Record, job: usize) -> Report {
+        let held = job < usize::from(record.job_count);
+        if self.by_rule && held {
+            return reported(&record.jobs[job], record.runs[job].handed);
+        }
+        let may_write = held && record.jobs[job].has_maybe_write();
+        Report {
             values: [0; 4].map(|_: i32| height(dice)),
-            mark: u8::from(may_write && dice.percent(self.writes)),
+            mark: u32::from(may_write && dice.percent(self.writes)),
         }
     }
 
-    /// An outside job with accesses of any modes, or one of another kind with its
-    /// own. Where it has more accesses than there are cells it is refused with 7.
-    fn job(&self, dice: &mut Dice) -> Job {
-        let kind = dice.pick(&[0, 0, 0, 1, 2, 3, 4, 5, 6]);
-        let modes: Vec<u32> = match kinds::modes(kind) {
-            Some(modes) => modes.to_vec(),
-            None => (0..dice.range(1, 4))
-                .map(|_| dice.pick(&[0, 1, 2, 2]))
-                .collect(),
-        };
-        let mut cells: Vec<u8> = (0..self.heights.len() as u8).collect();
-        dice.shuffle(&mut cells);
-        let mut accesses = [(0, 0); 4];
-        for (place, &mode) in modes.iter().enumerate() {
-            accesses[place] = (cells[place % cells.len()], mode as u8);
-        }
-        Job {
-            kind: kind as u8,
-            parameter: height(dice),
-            arity: modes.len() as u8,
-            accesses,
-        }
-    }
-
-    /// A job with something changed, that inserting mostly refuses.
+    /// Half of the time a sound job, else one with something changed, that inserting
+    /// mostly refuses.
     fn wild_job(&self, dice: &mut Dice) -> Job {
-        let mut job = self.job(dice);
-        match dice.below(4) {
+        let mut job = sound_job(dice, self.heights.len());
+        match dice.below(10) {
             0 => job.kind = dice.below(9) as u8,
-            1 => job.arity = dice.below(5) as u8,
+            1 => job.arity = dice.pick(&[0, 1, 2, 3, 4, 5, 255]),
             2 => job.accesses[0].0 = self.heights.len() as u8,
-            _ => job.accesses[0].1 = dice.below(4) as u8,
+            3 => job.accesses[0].1 = dice.below(4) as u8,
+            4 => {
+                job.arity = job.arity.max(2);
+                job.accesses[1].0 = job.accesses[0].0;
+            }
+            _ => {}
         }
         job
     }
+}
+
+/// An outside job with accesses of any modes, or one of another kind with its own;
+/// inserting refuses it only where the batch is full.
+pub fn sound_job(dice: &mut Dice, cells: usize) -> Job {
+    let kind = dice.pick(&[0, 0, 0, 1, 2, 3, 4, 5, 6]);
+    let modes: Vec<u32> = match kinds::modes(kind) {
+        Some(modes) => modes.to_vec(),
+        None => (0..dice.range(1, 4))
+            .map(|_| dice.pick(&[0, 1, 2, 2]))
+            .collect(),
+    };
+    if modes.len() > cells {
+        return sound_job(dice, cells);
+    }
+    let mut order: Vec<u8> = (0..cells as u8).collect();
+    dice.shuffle(&mut order);
+    let mut accesses = [(0, 0); 4];
+    for (place, &mode) in modes.iter().enumerate() {
+        accesses[place] = (order[place], mode as u8);
+    }
+    Job {
+        kind: kind as u8,
+        parameter: height(dice),
+        arity: modes.len() as u8,
+        accesses,
+    }
+}
+
+/// R176: one fixed rule of the values handed to a run: the kind's result, and of an
+/// outside job sums of all that it was handed.
+pub fn reported(job: &Job, handed: [i32; 4]) -> Report {
+    let outside = |_| {
+        let next = |sum: i32, value: &i32| sum.wrapping_mul(3).wrapping_add(*value);
+        let sum = handed.iter().fold(job.parameter, next);
+        Report {
+            values: handed.map(|value| value.wrapping_add(sum)),
+            mark: u32::from(job.has_maybe_write() && sum % 4 == 1),
+        }
+    };
+    kinds::result(u32::from(job.kind), job.parameter, handed).unwrap_or_else(outside)
+}
+
+/// Whether to look closely at a batch now: always where it has few jobs, now and
+/// then where it has many and looking takes long.
+pub fn worth_a_look(dice: &mut Dice, record: &Record) -> bool {
+    record.job_count < 20 || dice.percent(5)
 }
 
 /// Whether the job is in the state for the step.

@@ -360,14 +360,11 @@ impl Record {
 // Inserting and sealing
 
 impl Record {
-    /// R6: adds the job as the last.
+    /// R6: adds the job as the last. Whether the batch is sealed, or how its other
+    /// jobs stand, is not asked.
     pub fn insert(&mut self, job: Job) -> u8 {
         if !self.in_form() {
             return 32;
-        }
-        // R102: sealed already.
-        if self.sealed == 1 {
-            return 2;
         }
         // R103: 128 jobs are held.
         if self.job_count == MOST_JOBS {
@@ -389,7 +386,7 @@ impl Record {
         0
     }
 
-    /// R7, R94: sealed, with guessing off (0) or on (1).
+    /// R7, R94: sealed, once for a batch, with guessing off (0) or on (1).
     pub fn seal(&mut self, guessing: u8) -> u8 {
         if !self.in_form() {
             return 32;
@@ -835,7 +832,7 @@ impl Record {
                 ..BatchAnswer::default()
             };
         }
-        // R8: also with no jobs at all.
+        // R8: also with no jobs at all; no longer, once a job is added.
         let all_settled = self.held().all(|job| self.committed[job] != NOT_SETTLED);
         BatchAnswer {
             refusal: 0,

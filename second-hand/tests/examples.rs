@@ -1,10 +1,10 @@
-//! The worked examples of the rules, P1 to P11, Monday's and Thursday's batch, and
+//! The worked examples of the rules, P1 to P12, Monday's and Thursday's batch, and
 //! some others.
 
 use second_hand::answer;
 use second_hand::engine::{conflict, Access, Batch, Job, Report, Settled, MAYBE, READ, WRITE};
 use second_hand::kinds;
-use second_hand::lists::Call;
+use second_hand::lists::{Answer, Call};
 use second_hand::record::{self, Record};
 use second_hand::tally::{total, Tally};
 
@@ -238,17 +238,25 @@ impl Both {
 
     /// 0 or the refusal, the same from both.
     fn call(&mut self, call: Call) -> u8 {
-        let refusal = call.on_record(&mut self.record);
-        assert_eq!(call.on_batch(&mut self.batch), u32::from(refusal));
-        refusal
+        self.answer(call).0
+    }
+
+    fn answer(&mut self, call: Call) -> Answer {
+        let answer = call.on_record(&mut self.record);
+        assert_eq!(call.on_batch(&mut self.batch), answer);
+        answer
     }
 
     /// A step; what is reported is the kind's result.
     fn step(&mut self, number: u8, job: usize) -> u8 {
+        self.tried(number, job).0
+    }
+
+    fn tried(&mut self, number: u8, job: usize) -> Answer {
         let held = self.record.jobs[job];
         let handed = self.record.runs[job].handed;
         let report = kinds::result(u32::from(held.kind), held.parameter, handed).unwrap();
-        self.call(Call::Step {
+        self.answer(Call::Step {
             number,
             job,
             values: report.values,
@@ -261,6 +269,24 @@ impl Both {
         assert_eq!(self.batch.tally().numbers(), due);
         assert_eq!(self.record.ask_tally(), (0, Tally::of_numbers(due)));
         Tally::of_numbers(due)
+    }
+
+    /// Both are finished or both are not, and have these cells.
+    fn stands(&self, finished: bool, cells: [i32; 2]) {
+        assert_eq!(self.batch.finished(), finished);
+        assert_eq!(self.record.ask_batch().finished, finished);
+        for (cell, height) in cells.into_iter().enumerate() {
+            assert_eq!(self.batch.ask_cell(cell as u32), Ok(height));
+            assert_eq!(self.record.ask_cell(cell), (0, height));
+        }
+    }
+
+    /// The chooser names this step, job and chain.
+    fn chooses(&self, step: u8, job: u8, chain: u8) {
+        let choice = self.batch.choose().unwrap();
+        let named = (choice.step, choice.job, choice.chain);
+        assert_eq!(named, (step.into(), job.into(), chain.into()));
+        assert_eq!(self.record.choose(), (0, step, job, chain));
     }
 }
 
@@ -322,4 +348,46 @@ fn p11_totals_at_the_limit() {
         assert_eq!(total(&[most, only(0)]), (0, most));
         assert_eq!(total(&[most, only(1)]), (23, Tally::default()));
     }
+}
+
+/// P8's batch, sealed with guessing on.
+fn p8() -> Both {
+    let mut both = Both::floor_and_shifts(&[1500, 1480], 1);
+    assert_eq!(both.call(Call::Seal(1)), 0);
+    both
+}
+
+#[test]
+fn p12_a_job_for_a_finished_batch() {
+    let mut both = p8();
+    for (number, job) in [(0, 0), (1, 1), (3, 1), (2, 0), (4, 1)] {
+        assert_eq!(both.step(number, job), 0);
+    }
+    both.stands(true, [1520, 1480]);
+    both.insert(2, 5, 1);
+    assert_eq!(both.record.job_count, 3);
+    both.stands(false, [1520, 1480]);
+    assert_eq!(both.call(Call::Seal(1)), 2);
+    both.chooses(0, 2, 1);
+    assert_eq!(both.tried(0, 2), (0, [1520, 0, 0, 0]));
+    assert_eq!(both.step(2, 2), 0);
+    both.stands(true, [1525, 1480]);
+}
+
+#[test]
+fn p12_a_job_while_both_runs_are_out() {
+    let mut both = p8();
+    assert_eq!(both.step(0, 0), 0);
+    assert_eq!(both.step(1, 1), 0);
+    both.insert(2, 5, 1);
+    assert_eq!(both.step(1, 2), 15);
+    assert_eq!(both.step(3, 1), 0);
+    assert_eq!(both.tried(1, 2), (0, [1520, 0, 0, 0]));
+    assert_eq!(both.step(3, 2), 0);
+    assert_eq!(both.step(2, 0), 0);
+    assert_eq!(both.step(4, 2), 15);
+    assert_eq!(both.step(4, 1), 0);
+    both.stands(false, [1520, 1480]);
+    assert_eq!(both.step(4, 2), 0);
+    both.stands(true, [1525, 1480]);
 }

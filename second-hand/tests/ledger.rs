@@ -1,210 +1,128 @@
-//! The claim of R170 to R176, tried out on random lists of calls. The ledger
-//! (R162) is kept here from the calls alone.
+//! The claim of R170 to R176, tried out on random lists of calls with inserts
+//! anywhere. Of R170 it is tried that `record` and `engine` answer alike; all else
+//! is held against the ledger, which is kept from the calls alone.
 
-use second_hand::engine::{Access, Batch, Report, Settled, MAYBE, WRITE};
-use second_hand::kinds;
+use second_hand::engine::{Batch, Settled};
+use second_hand::ledger::Ledger;
+use second_hand::lists::{worth_a_look, Manner};
+use second_hand::plans::Dice;
+use second_hand::record::Record;
 
-struct Dice(u64);
-
-impl Dice {
-    fn below(&mut self, limit: u64) -> u64 {
-        self.0 ^= self.0 << 13;
-        self.0 ^= self.0 >> 7;
-        self.0 ^= self.0 << 17;
-        (self.0 >> 11) % limit
-    }
+/// One batch on both implementations, and its ledger.
+struct Worked {
+    record: Record,
+    batch: Batch,
+    ledger: Ledger,
 }
 
-#[derive(Clone)]
-struct Line {
-    kind: u32,
-    p: i32,
-    accesses: Vec<Access>,
-    own: Option<[i32; 4]>,
-    guess: Option<([i32; 4], Option<Report>)>,
-    counted: Option<([i32; 4], Report)>,
-    steps: u32,
-}
-
-struct Ledger {
-    heights: Vec<i32>,
-    jobs: Vec<Line>,
-}
-
-impl Ledger {
-    /// R165, the insertion-order run of the counted reports: for each job what the
-    /// jobs before it left (R166), and the heights at the end.
-    fn run(&self) -> (Vec<[i32; 4]>, Vec<i32>) {
-        let mut cells = self.heights.clone();
-        let mut before = Vec::new();
-        for job in &self.jobs {
-            let mut left = [0; 4];
-            for (place, access) in job.accesses.iter().enumerate() {
-                left[place] = cells[access.cell as usize];
-            }
-            before.push(left);
-            if let Some((_, report)) = job.counted {
-                for (place, access) in job.accesses.iter().enumerate() {
-                    if access.mode == WRITE || (access.mode == MAYBE && report.mark == 1) {
-                        cells[access.cell as usize] = report.values[place];
-                    }
-                }
-            }
-        }
-        (before, cells)
-    }
-}
-
-fn random_job(dice: &mut Dice, cells: u64) -> (u32, i32, Vec<Access>) {
-    let kind = dice.below(7) as u32;
-    let count = match kinds::modes(kind) {
-        Some(modes) => modes.len() as u64,
-        None => 1 + dice.below(4),
-    };
-    let mut accesses = Vec::new();
-    for place in 0..count {
-        let mode = match kinds::modes(kind) {
-            Some(modes) => modes[place as usize],
-            None => dice.below(3) as u32,
-        };
-        accesses.push(Access { cell: dice.below(cells) as u32, mode });
-    }
-    (kind, dice.below(40) as i32 - 20, accesses)
-}
-
-/// R176: a fixed rule for what a job reports of what it is handed.
-fn rule(line: &Line, handed: [i32; 4]) -> Report {
-    match kinds::result(line.kind, line.p, handed) {
-        Ok(report) => report,
-        Err(_) => {
-            let maybe = line.accesses.iter().any(|access| access.mode == MAYBE);
-            let sum = handed.iter().fold(line.p, |sum, value| sum.wrapping_mul(3).wrapping_add(*value));
-            let values = handed.map(|value| value.wrapping_add(sum));
-            Report { values, mark: u32::from(maybe && sum % 2 != 0) }
+impl Worked {
+    fn open(heights: &[i32]) -> Worked {
+        Worked {
+            record: Record::open(heights).unwrap(),
+            batch: Batch::open(heights).unwrap(),
+            ledger: Ledger::open(heights),
         }
     }
-}
 
-/// One random list on the given jobs; with the fixed rule, or with any reports.
-/// Gives the final cells and how the jobs settled, when all of them are.
-fn one_list(dice: &mut Dice, heights: &[i32], jobs: &[(u32, i32, Vec<Access>)], guess: u32, fixed: bool) -> Option<(Vec<i32>, Vec<u32>)> {
-    let mut batch = Batch::open(heights).unwrap();
-    let mut ledger = Ledger { heights: heights.to_vec(), jobs: Vec::new() };
-    for (kind, p, accesses) in jobs {
-        if batch.insert(*kind, *p, accesses).is_ok() {
-            ledger.jobs.push(Line {
-                kind: *kind,
-                p: *p,
-                accesses: accesses.clone(),
-                own: None,
-                guess: None,
-                counted: None,
-                steps: 0,
-            });
-        }
-    }
-    batch.seal(guess).unwrap();
-    let count = ledger.jobs.len() as u64;
-    for _ in 0..60 * (count + 1) {
-        let number = dice.below(count + 1);
-        let step = dice.below(5);
-        let job = number as u32;
-        let before = batch.clone();
-        let handed = ledger.jobs.get(number as usize).map(|line| match step {
-            2 => line.own.unwrap_or([0; 4]),
-            _ => line.guess.map_or([0; 4], |guess| guess.0),
-        });
-        let report = match (handed, fixed) {
-            (Some(handed), true) => rule(&ledger.jobs[number as usize], handed),
-            _ => Report {
-                values: [0; 4].map(|_: i32| dice.below(50) as i32),
-                mark: if dice.below(9) == 0 { 2 } else { dice.below(2) as u32 },
-            },
-        };
-        let answer: Result<Option<[i32; 4]>, u32> = match step {
-            0 => batch.start_own(job).map(Some),
-            1 => batch.start_guess(job).map(Some),
-            2 => batch.report_own(job, report).map(|()| None),
-            3 => batch.report_guess(job, report).map(|()| None),
-            _ => batch.settle(job).map(|()| None),
-        };
-        let Ok(handed) = answer else {
+    /// Makes the list's next call, and tries the claim after it.
+    fn go_on(&mut self, dice: &mut Dice, manner: &Manner) {
+        let call = manner.call(dice, &self.record);
+        let before = (self.record.clone(), self.batch.clone());
+        let answer = call.on_record(&mut self.record);
+        assert_eq!(call.on_batch(&mut self.batch), answer, "{call:?}");
+        self.ledger.enter(&call, answer);
+        if answer.0 != 0 {
             // R81: a refused call changes nothing.
-            assert_eq!(batch, before);
-            continue;
-        };
-        let line = &mut ledger.jobs[number as usize];
-        line.steps += 1;
-        match step {
-            0 => {
-                line.guess = None;
-                line.own = handed;
-            }
-            1 => line.guess = handed.map(|values| (values, None)),
-            2 => line.counted = line.own.map(|values| (values, report)),
-            3 => line.guess = line.guess.map(|(values, _)| (values, Some(report))),
-            _ => line.counted = line.guess.and_then(|(values, report)| Some((values, report?))),
+            assert!((&self.record, &self.batch) == (&before.0, &before.1));
+        } else if worth_a_look(dice, &self.record) {
+            self.ledger.claim(&self.cells(), &self.settled());
+            self.batch_is_claimed();
+            self.can_go_on();
         }
-        if step == 2 || step == 4 {
-            assert!(line.counted.is_some());
-        }
-        // R171
-        assert!(line.steps <= 4);
+    }
 
-        // R173: the cells.
-        let (left, cells) = ledger.run();
-        for (cell, height) in cells.iter().enumerate() {
-            assert_eq!(batch.ask_cell(cell as u32), Ok(*height));
-        }
-        // R174: what counted runs were handed. R175: how jobs are settled.
-        for (number, line) in ledger.jobs.iter().enumerate() {
-            let asked = batch.ask_job(number as u32).unwrap();
-            match line.counted {
-                None => assert_eq!(asked, Settled::No),
-                Some((handed, report)) => {
-                    assert_eq!(handed, left[number]);
-                    let by_guess = line.guess.is_some();
-                    let mark = report.mark;
-                    let how = if by_guess { Settled::ByGuess { mark } } else { Settled::ByOwnRun { mark } };
-                    assert_eq!(asked, how);
-                }
-            }
-        }
-        // R172: while a job is not settled, some step is accepted.
-        if ledger.jobs.iter().any(|line| line.counted.is_none()) {
-            let some = (0..5).any(|step| (0..count as u32).any(|job| batch.would_answer(step, job) == Some(0)));
-            assert!(some);
-        } else {
-            assert!(batch.finished());
+    /// The cells as asked for.
+    fn cells(&self) -> Vec<i32> {
+        let cells = 0..usize::from(self.record.cell_count);
+        cells.map(|cell| self.record.ask_cell(cell).1).collect()
+    }
+
+    /// Of each job how it is settled and its mark, as asked for.
+    fn settled(&self) -> Vec<(u8, u8)> {
+        let asked = |job| {
+            let answer = self.record.ask_job(job);
+            (answer.committed, answer.wrote)
+        };
+        (0..usize::from(self.record.job_count)).map(asked).collect()
+    }
+
+    /// What `engine` says of cells and jobs holds too.
+    fn batch_is_claimed(&self) {
+        let mut cells = vec![0; self.batch.cell_count() as usize];
+        self.batch.copy_cells(&mut cells, 0).unwrap();
+        let settled = |job| match self.batch.ask_job(job).unwrap() {
+            Settled::No => (0, 0),
+            Settled::ByOwnRun { mark } => (1, mark as u8),
+            Settled::ByGuess { mark } => (2, mark as u8),
+        };
+        let jobs: Vec<(u8, u8)> = (0..self.batch.job_count()).map(settled).collect();
+        self.ledger.claim(&cells, &jobs);
+    }
+
+    /// R8, and R172: while a job of a sealed batch is not settled, some step is
+    /// accepted.
+    fn can_go_on(&self) {
+        let sealed = self.ledger.sealed.is_some();
+        let finished = sealed && self.ledger.all_settled();
+        assert_eq!(self.batch.finished(), finished);
+        assert_eq!(self.record.ask_batch().finished, finished);
+        if sealed && !finished {
+            let accepted = |job, step| self.batch.would_answer(step, job) == Some(0);
+            let some_step = |job| (0..5).any(|step| accepted(job, step));
+            assert!((0..self.batch.job_count()).any(some_step));
         }
     }
-    if !batch.finished() {
-        return None;
-    }
-    let marks = ledger.jobs.iter().map(|line| line.counted.map_or(9, |(_, report)| report.mark)).collect();
-    Some((ledger.run().1, marks))
 }
 
 #[test]
 fn random_lists() {
-    let mut dice = Dice(0x1234_5678_9ABC_DEF1);
-    let mut ended = 0;
-    let mut compared = 0;
+    let mut dice = Dice::new(1, 170);
+    let (mut ended, mut added) = (0, 0);
     for _ in 0..600 {
-        let cells = 1 + dice.below(5);
-        let heights: Vec<i32> = (0..cells).map(|_| dice.below(60) as i32 - 20).collect();
-        let jobs: Vec<_> = (0..dice.below(10)).map(|_| random_job(&mut dice, cells)).collect();
-        if one_list(&mut dice, &heights, &jobs, 1, false).is_some() {
-            ended += 1;
+        let manner = Manner::any(&mut dice);
+        let mut worked = Worked::open(&manner.heights);
+        for _ in 0..manner.calls() {
+            worked.go_on(&mut dice, &manner);
         }
-        let first = one_list(&mut dice, &heights, &jobs, 1, true);
-        let second = one_list(&mut dice, &heights, &jobs, 1, true);
-        let third = one_list(&mut dice, &heights, &jobs, 0, true);
-        if let (Some(first), Some(second), Some(third)) = (first, second, third) {
-            assert_eq!(first, second);
-            assert_eq!(first, third);
-            compared += 1;
-        }
+        ended += u32::from(worked.batch.finished());
+        added += worked.ledger.jobs.iter().filter(|line| line.added).count();
     }
-    assert!(ended > 400 && compared > 400, "{ended} {compared}");
+    println!("600 lists, finished at the end {ended}, jobs after the seal {added}");
+    assert!(ended > 300 && added > 1000, "{ended} {added}");
+}
+
+/// Works the list to its end: the cells and the marks, as asked for.
+fn worked_out(dice: &mut Dice, manner: &Manner) -> (Vec<i32>, Vec<u8>) {
+    let mut worked = Worked::open(&manner.heights);
+    while !manner.is_done(&worked.record) {
+        worked.go_on(dice, manner);
+    }
+    worked.ledger.claim(&worked.cells(), &worked.settled());
+    let marks = worked.settled().into_iter().map(|(_, mark)| mark);
+    (worked.cells(), marks.collect())
+}
+
+/// R176.
+#[test]
+fn pairs_of_lists() {
+    let mut dice = Dice::new(1, 176);
+    let mut marked = 0;
+    for _ in 0..300 {
+        let [first, second] = Manner::pair(&mut dice);
+        let end = worked_out(&mut dice, &first);
+        assert_eq!(worked_out(&mut dice, &second), end);
+        marked += u32::from(end.1.contains(&1));
+    }
+    println!("300 pairs, a mark of 1 in {marked}");
+    assert!(marked > 100, "{marked}");
 }

@@ -901,29 +901,31 @@ fn places_not_in_use() {
     }
 }
 
-/// An insert blanks the place that it takes, and nothing else.
+/// An insert blanks the place that it takes, and nothing else, sealed or not.
 #[test]
 fn insert_into_a_place_not_blank() {
-    let mut other = scribbled(&mut Dice(4), &quay(1));
-    other.sealed = 0;
-    let mut due = other.clone();
     let new = Job {
         accesses: [(1, WRITE), (9, 9), (0, 2), (1, 1)],
         ..job(2, 4, &[(0, WRITE)])
     };
-    assert_eq!(other.insert(new), 0);
-    due.job_count = 5;
-    due.jobs[4] = new;
-    due.runs[4] = Run::default();
-    (due.committed[4], due.running[4], due.phase[4]) = (0, 0, 0);
-    assert_eq!(other, due);
-    assert_eq!(
-        other.ask_job(4),
-        JobAnswer {
-            job: new,
-            ..JobAnswer::default()
-        }
-    );
+    for sealed in [0, 1] {
+        let mut other = scribbled(&mut Dice(4), &quay(1));
+        other.sealed = sealed;
+        let mut due = other.clone();
+        assert_eq!(other.insert(new), 0);
+        due.job_count = 5;
+        due.jobs[4] = new;
+        due.runs[4] = Run::default();
+        (due.committed[4], due.running[4], due.phase[4]) = (0, 0, 0);
+        assert_eq!(other, due);
+        assert_eq!(
+            other.ask_job(4),
+            JobAnswer {
+                job: new,
+                ..JobAnswer::default()
+            }
+        );
+    }
 }
 
 /// R100: 32 goes before all. Then 21 of what is no step, then the others from the
@@ -948,7 +950,8 @@ fn order_of_refusals() {
     assert_eq!(open.seal(2), 9);
     assert_eq!(open.seal(0), 0);
     assert_eq!(open.seal(2), 2);
-    assert_eq!(open.insert(Job::default()), 2);
+    // R6: after sealing too a job is refused for what it is only.
+    assert_eq!(open.insert(Job::default()), 4);
     assert_eq!(open.step(1, 0, [0; 4], 9), (11, [0; 4]));
     let mut off = quay(0);
     assert_eq!(step(&mut off, 1, 0, 0, 9), 12);
@@ -1472,7 +1475,7 @@ fn damaged_records() {
     let mut in_form = 0;
     let mut accepted = [0; 5];
     let mut four = Four::default();
-    for _ in 0..900 {
+    for _ in 0..1500 {
         let inserts = 1 + dice.below(10);
         let calls = dice.below(4 * inserts);
         let sound = one_list(&mut dice, 6, inserts, calls, 1000).record;

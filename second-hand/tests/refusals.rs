@@ -40,21 +40,12 @@ fn refusal_1() {
 }
 
 #[test]
-fn refusals_2_to_9() {
+fn refusals_2_and_9_of_sealing_and_8_of_a_result() {
     let mut sealed = batch(1);
-    refused(&mut sealed, 2, |b| b.insert(9, 0, &[]));
+    refused(&mut sealed, 2, |b| b.seal(0));
     refused(&mut sealed, 2, |b| b.seal(5));
 
     let mut open = Batch::open(&[0, 0]).unwrap();
-    refused(&mut open, 4, |b| b.insert(9, 0, &[]));
-    refused(&mut open, 4, |b| b.insert(0, 0, &[on(9, 9); 5]));
-    refused(&mut open, 5, |b| b.insert(9, 0, &[on(1, 3), on(2, 0), on(2, 0)]));
-    refused(&mut open, 6, |b| b.insert(9, 0, &[on(1, 3), on(1, 0)]));
-    refused(&mut open, 7, |b| b.insert(9, 0, &[on(1, 0), on(1, 0)]));
-    refused(&mut open, 8, |b| b.insert(7, 0, &[on(1, 0)]));
-    refused(&mut open, 8, |b| b.insert(1, 0, &[on(1, READ)]));
-    refused(&mut open, 8, |b| b.insert(1, 0, &[on(1, WRITE), on(0, READ)]));
-    refused(&mut open, 8, |b| b.insert(3, 0, &[on(1, MAYBE)]));
     refused(&mut open, 9, |b| b.seal(2));
     for kind in [0, 7, 255] {
         assert_eq!(kinds::result(kind, 0, [0; 4]), Err(8));
@@ -65,11 +56,30 @@ fn refusals_2_to_9() {
     // R18: those in places that the kind does not use too.
     let changed = Report { values: [8, 9, 7, 6], mark: 1 };
     assert_eq!(kinds::ask_result(6, -1, [9, 8, 7, 6]), (0, changed));
+}
 
-    for _ in 0..128 {
-        open.insert(0, 0, &[on(0, READ)]).unwrap();
+/// R6: before sealing and after it alike.
+#[test]
+fn refusals_3_to_8_of_inserting() {
+    let open = Batch::open(&[0, 0]).unwrap();
+    let mut empty = open.clone();
+    empty.seal(0).unwrap();
+    for mut batch in [open, empty, batch(1)] {
+        refused(&mut batch, 4, |b| b.insert(9, 0, &[]));
+        refused(&mut batch, 4, |b| b.insert(0, 0, &[on(9, 9); 5]));
+        refused(&mut batch, 5, |b| b.insert(9, 0, &[on(1, 3), on(2, 0), on(2, 0)]));
+        refused(&mut batch, 6, |b| b.insert(9, 0, &[on(1, 3), on(1, 0)]));
+        refused(&mut batch, 7, |b| b.insert(9, 0, &[on(1, 0), on(1, 0)]));
+        refused(&mut batch, 8, |b| b.insert(7, 0, &[on(1, 0)]));
+        refused(&mut batch, 8, |b| b.insert(1, 0, &[on(1, READ)]));
+        refused(&mut batch, 8, |b| b.insert(1, 0, &[on(1, WRITE), on(0, READ)]));
+        refused(&mut batch, 8, |b| b.insert(3, 0, &[on(1, MAYBE)]));
+        while batch.job_count() < 128 {
+            batch.insert(0, 0, &[on(0, READ)]).unwrap();
+        }
+        refused(&mut batch, 3, |b| b.insert(9, 0, &[]));
+        refused(&mut batch, 3, |b| b.insert(0, 0, &[on(0, READ)]));
     }
-    refused(&mut open, 3, |b| b.insert(9, 0, &[]));
 }
 
 #[test]

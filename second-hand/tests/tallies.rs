@@ -496,9 +496,9 @@ fn one_list(dice: &mut Dice, times: &mut [u64; MET.len()]) -> Vec<Tally> {
     let mut taken = Vec::new();
     for _ in 0..manner.calls() {
         let call = manner.call(dice, &record);
-        let refusal = call.on_record(&mut record);
-        assert_eq!(call.on_batch(&mut batch), u32::from(refusal), "{call:?}");
-        if refusal == 0 {
+        let answer = call.on_record(&mut record);
+        assert_eq!(call.on_batch(&mut batch), answer, "{call:?}");
+        if answer.0 == 0 {
             ledger.enter(&call);
         }
         let tally = ledger.tally();

@@ -1,6 +1,6 @@
 //! The wrapper over the archive: batches run to their end, every refusal that a caller can meet, and the record kept.
 
-use sorghemi::{answer, Batch, Committed, Job, JobState, Kind, Mode, Phase, Record, Refusal, Report, Step, Validity};
+use sorghemi::{answer, Batch, Choice, Committed, Job, JobState, Kind, Mode, Phase, Record, Refusal, Report, Step, Validity};
 
 /// A small generator of random numbers, the same in every run.
 struct Random(u64);
@@ -57,6 +57,45 @@ fn thursday() {
     };
     assert_eq!(batch.job(0), Ok(spike));
     assert_eq!(batch.job(1).unwrap().phase, Phase::Discarded);
+}
+
+/// P12 of docs/RULES.md, the job inserted when all others are settled.
+#[test]
+fn a_finished_batch_gains_a_job() {
+    let mut batch = sealed(&[1500, 1480], &[Job::floor(0, 1400), Job::shift(0, 20)]);
+    batch.start_own(0).unwrap();
+    batch.start_speculation(1).unwrap();
+    batch.report_speculation(1, Report::of(&[1520])).unwrap();
+    batch.report_own(0, Report::default()).unwrap();
+    batch.commit(1).unwrap();
+    assert!(batch.finished());
+    assert_eq!(batch.cells(), [1520, 1480]);
+    assert_eq!(batch.insert(Job::shift(0, 5)), Ok(2));
+    assert!(!batch.finished());
+    assert_eq!(batch.seal(true), Err(Refusal::SEALED));
+    assert_eq!(batch.choose(), Ok(Choice { step: Step::StartOwn, job: 2, chain: 1 }));
+    assert_eq!(batch.start_own(2), Ok([1520, 0, 0, 0]));
+    batch.report_own(2, Report::of(&[1525])).unwrap();
+    assert!(batch.finished());
+    assert_eq!(batch.cells(), [1525, 1480]);
+}
+
+/// P12, the job inserted while both runs are out.
+#[test]
+fn a_job_comes_in_while_runs_are_out() {
+    let mut batch = sealed(&[1500, 1480], &[Job::floor(0, 1400), Job::shift(0, 20)]);
+    batch.start_own(0).unwrap();
+    batch.start_speculation(1).unwrap();
+    assert_eq!(batch.insert(Job::shift(0, 5)), Ok(2));
+    assert_eq!(batch.start_speculation(2), Err(Refusal::MUST_WAIT));
+    batch.report_speculation(1, Report::of(&[1520])).unwrap();
+    assert_eq!(batch.start_speculation(2), Ok([1520, 0, 0, 0]));
+    batch.report_speculation(2, Report::of(&[1525])).unwrap();
+    batch.report_own(0, Report::default()).unwrap();
+    batch.commit(1).unwrap();
+    batch.commit(2).unwrap();
+    assert!(batch.finished());
+    assert_eq!(batch.cells(), [1525, 1480]);
 }
 
 #[test]
@@ -205,7 +244,7 @@ fn refusals_of_the_planner() {
     assert_eq!(batch.insert(Job::set(63, 1)), Err(Refusal::TOO_MANY_JOBS));
     assert!(!batch.finished());
     batch.seal(false).unwrap();
-    assert_eq!(batch.insert(Job::set(63, 1)), Err(Refusal::SEALED));
+    assert_eq!(batch.insert(Job::set(63, 1)), Err(Refusal::TOO_MANY_JOBS));
     assert_eq!(batch.seal(true), Err(Refusal::SEALED));
     assert_eq!(batch.start_speculation(1), Err(Refusal::GUESSING_OFF));
 }

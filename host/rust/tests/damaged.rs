@@ -256,7 +256,7 @@ impl Met {
     /// Makes the step in both hands; what it answers and leaves is the same in both, so what is counted of it holds of both.
     fn step(&mut self, entry: &'static str, both: &mut Both, number: u8, job: usize, report: Report) {
         let before = both.ours;
-        let answer = both.step(number, job, report);
+        let (answer, _) = both.step(number, job, report);
         self.answer(entry, answer);
         if answer == 0 && before.jobs[job].arity == 4 {
             self.step_of_four(&before, &both.ours, number, job, report);
@@ -279,6 +279,25 @@ impl Met {
         ];
         for &(_, what) in met.iter().filter(|(did, _)| *did) {
             self.four[what] += 1;
+        }
+    }
+
+    /// Inserts the job on a copy of the record; where a sealed one takes it, a run of it is started.
+    fn insert(&mut self, record: &Record, job: Job, random: &mut Random) {
+        let sealed = record.sealed != 0;
+        let mut both = Both::of(record);
+        let answer = both.insert(job);
+        self.answer(if sealed { "insert, sealed" } else { "insert, not sealed" }, answer);
+        if sealed && answer == 0 {
+            let number = random.below(2) as u8;
+            self.step("a start of the added job", &mut both, number, record.job_count as usize, Report::default());
+        }
+    }
+
+    /// R6: jobs have to be taken before sealing and after it, and runs of the latter started.
+    fn inserts_came_up(&self) {
+        for entry in ["insert, not sealed", "insert, sealed", "a start of the added job"] {
+            assert!(self.answers.contains_key(&(entry, 0)), "never accepted: {entry}");
         }
     }
 
@@ -308,14 +327,15 @@ fn try_every_entry(record: &Record, random: &mut Random, met: &mut Met) -> Tally
     let cells = record.cell_count.clamp(1, 64) as usize;
     let jobs = record.job_count.clamp(1, 128) as usize;
     let mut both = Both::of(record);
-    met.answer("choose", both.choose());
-    let held = if both.ask_batch() == 0 { record.job_count as usize } else { 0 };
-    met.answer("ask batch", both.ask_batch());
+    met.answer("choose", both.choose().refusal);
+    let asked = both.ask_batch();
+    let held = if asked.refusal == 0 { record.job_count as usize } else { 0 };
+    met.answer("ask batch", asked.refusal);
     let tally = met.ask_tally(&both);
-    met.answer("ask cell", both.ask_cell(random.around(cells)));
+    met.answer("ask cell", both.ask_cell(random.around(cells)).refusal);
     met.ask_job(&both, random.around(jobs));
     met.answer("copy out", both.copy_out(random.around(cells + 4), random.around(4)));
-    met.answer("insert", Both::of(record).insert(random.job(cells)));
+    met.insert(record, random.job(cells), random);
     met.answer("seal", Both::of(record).seal(random.below(3) as u8));
     for number in 0..6 {
         let job = job_for(number, record, random);
@@ -363,6 +383,7 @@ fn damaged_records_are_refused_or_answered_soundly() {
     for entry in ["ask batch", "ask tally"] {
         assert!(of(entry, 32) > count / 10 && of(entry, 0) > count / 10, "both sorts of records have to come up");
     }
+    met.inserts_came_up();
     assert!(met.four.iter().all(|&times| times > 0), "something never came up with four accesses: {:?}", met.four);
     assert!(met.judged.iter().all(|times| times[0] + times[1] > 0), "no guess was judged so: {:?}", met.judged);
     assert!(met.tallies.iter().all(|&times| times > 0), "no tally was so: {:?}", met.tallies);
@@ -383,6 +404,7 @@ fn jobs_in_any_state_are_answered_soundly() {
     met.print();
     assert_eq!(met.answers.get(&("ask batch", 32)), None, "all are in form");
     assert_eq!(met.answers.get(&("ask tally", 32)), None, "all are in form");
+    met.inserts_came_up();
     assert!(met.judged.iter().flatten().all(|&times| times > 0), "no guess was judged so: {:?}", met.judged);
     assert!(met.tallies.iter().all(|&times| times > 0), "no tally was so: {:?}", met.tallies);
 }

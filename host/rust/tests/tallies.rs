@@ -2,22 +2,19 @@
 //! asked for on the way; lists of tallies, added up; and kept shares (`second_hand::tally`). BATCHES=COUNT, LISTS=COUNT and
 //! SHARES=COUNT set how many, SEED=NUMBER which; it prints what was met (`cargo test --test tallies -- --nocapture`).
 
+mod hands;
 mod setting;
 #[allow(dead_code)] // Calls that only tests/damaged.rs makes.
 mod theirs;
 
-use second_hand::lists::{Call, Manner};
+use hands::{add, Hands};
+use second_hand::lists::Manner;
 use second_hand::plans::Dice;
-use second_hand::{engine, record, tally};
+use second_hand::{record, tally};
 use setting::setting;
 use sorghemi::raw::{sorghemi_kept_share, sorghemi_total, TallyAnswer};
-use sorghemi::{Access, Batch, Job, Refusal, Report, Tally};
-use theirs::{read_tally, Both};
-
-/// Adds one to the times of what was met.
-fn add<const COUNT: usize>(times: &mut [u64; COUNT], met: [bool; COUNT]) {
-    times.iter_mut().zip(met).for_each(|(times, did)| *times += did as u64);
-}
+use sorghemi::{Batch, Refusal, Tally};
+use theirs::read_tally;
 
 /// What may be met of a batch whose tally is asked for. Each has to come up.
 const ASKED: [&str; 12] = [
@@ -47,8 +44,8 @@ struct Asked {
 }
 
 impl Asked {
-    /// The tally in both hands, of the engine that the second hand has besides, and by the wrapper. R177: it is in balance.
-    fn ask(&mut self, both: &Both, third: &engine::Batch) -> Tally {
+    /// The tally in all three hands, and by the wrapper. R177: it is in balance.
+    fn ask(&mut self, Hands { both, third }: &Hands) -> Tally {
         let answer = both.ask_tally();
         let theirs = read_tally(&answer.tally);
         assert_eq!((answer.refusal, theirs), (0, third.tally()), "the tally of {:?}", both.ours);
@@ -92,31 +89,17 @@ impl Asked {
     }
 }
 
-/// Makes the call in both hands.
-fn make(call: &Call, both: &mut Both) -> u8 {
-    match *call {
-        Call::Insert(record::Job { kind, parameter, arity, accesses }) => {
-            let accesses = accesses.map(|(cell, mode)| Access { cell, mode });
-            both.insert(Job { kind, parameter, arity, accesses })
-        }
-        Call::Seal(guessing) => both.seal(guessing),
-        Call::Step { number, job, values, mark } => both.step(number, job, Report { values, wrote: mark }),
-    }
-}
-
 /// A batch worked by a random list of calls, and its tallies: after the opening, some on the way, and at the end.
 fn worked(dice: &mut Dice, asked: &mut Asked) -> Vec<Tally> {
     let manner = Manner::any(dice);
     let often = dice.pick(&[3, 10, 30]);
-    let mut both = Both::of(Batch::open(&manner.heights).unwrap().record());
-    let mut third = engine::Batch::open(&manner.heights).unwrap();
-    let mut taken = vec![asked.ask(&both, &third)];
+    let mut hands = Hands::open(&manner.heights);
+    let mut taken = vec![asked.ask(&hands)];
     for left in (0..manner.calls()).rev() {
-        let call = manner.call(dice, &both.theirs);
-        let refusal = make(&call, &mut both);
-        assert_eq!(u32::from(refusal), call.on_batch(&mut third), "{call:?} on {:?}", both.ours);
+        let call = manner.call(dice, &hands.both.theirs);
+        hands.make(&call);
         if left == 0 || dice.percent(often) {
-            taken.push(asked.ask(&both, &third));
+            taken.push(asked.ask(&hands));
         }
     }
     taken

@@ -4,6 +4,7 @@ use second_hand::{record, tally};
 use sorghemi::raw::*;
 use sorghemi::{Job, Record, Report, Tally};
 
+#[derive(Clone)]
 pub struct Both {
     pub ours: Record,
     pub theirs: record::Record,
@@ -61,7 +62,7 @@ impl Both {
     }
 
     /// The step in the lent form and by value.
-    pub fn step(&mut self, number: u8, job: usize, report: Report) -> u8 {
+    pub fn step(&mut self, number: u8, job: usize, report: Report) -> (u8, [i32; 4]) {
         let before = self.ours;
         let by_value = unsafe { sorghemi_step_by_value(before, number, job, report) };
         let handed = unsafe { sorghemi_step(&mut self.ours, number, job, report) };
@@ -69,19 +70,19 @@ impl Both {
         assert_eq!((handed.refusal, handed.values), theirs, "step {number} of job {job}, {report:?}, of {before:?}");
         assert_eq!((by_value.refusal, by_value.handed, by_value.batch), (handed.refusal, handed.values, self.ours));
         self.same_record(&format!("step {number} of job {job}"));
-        handed.refusal
+        theirs
     }
 
-    pub fn choose(&self) -> u8 {
+    pub fn choose(&self) -> Choice {
         let ours = unsafe { sorghemi_choose(self.ours) };
         assert_eq!((ours.refusal, ours.step, ours.job, ours.chain), self.theirs.choose(), "choose of {:?}", self.ours);
-        ours.refusal
+        ours
     }
 
-    pub fn ask_cell(&self, cell: usize) -> u8 {
+    pub fn ask_cell(&self, cell: usize) -> CellAnswer {
         let ours = unsafe { sorghemi_ask_cell(self.ours, cell) };
         assert_eq!((ours.refusal, ours.height), self.theirs.ask_cell(cell));
-        ours.refusal
+        ours
     }
 
     pub fn ask_job(&self, job: usize) -> JobAnswer {
@@ -116,14 +117,14 @@ impl Both {
         ours
     }
 
-    pub fn ask_batch(&self) -> u8 {
+    pub fn ask_batch(&self) -> BatchAnswer {
         let ours = unsafe { sorghemi_ask_batch(self.ours) };
         let theirs = self.theirs.ask_batch();
         assert_eq!(
             (ours.refusal, ours.cell_count, ours.job_count, ours.sealed, ours.speculating, ours.finished),
             (theirs.refusal, theirs.cell_count, theirs.job_count, theirs.sealed, theirs.speculating, theirs.finished)
         );
-        ours.refusal
+        ours
     }
 
     /// R70: the record handed in stays as it is.

@@ -1,0 +1,155 @@
+//! The ledger (R162 to R166), kept from a list of calls alone: each call's
+//! arguments, whether it was accepted, and what a start handed out. Nothing is read
+//! from a batch. R numbers are the rules of docs/RULES.md.
+
+use crate::engine::Report;
+use crate::lists::{Answer, Call};
+use crate::record::Job;
+
+/// R56: the run that counts, and what was reported of it.
+#[derive(Clone, Copy, Debug)]
+pub struct Counted {
+    pub handed: [i32; 4],
+    pub report: Report,
+    pub by_guess: bool,
+}
+
+/// What is entered of one job.
+#[derive(Clone, Copy, Debug)]
+pub struct Line {
+    pub job: Job,
+    /// Whether the batch was sealed when it came in.
+    pub added: bool,
+    /// What the own run was handed, once it is started.
+    pub own: Option<[i32; 4]>,
+    /// What the guess was handed, and its report once there is one; none where it
+    /// was never started or is struck out.
+    pub guess: Option<([i32; 4], Option<Report>)>,
+    pub counted: Option<Counted>,
+    /// R163: the accepted steps.
+    pub steps: u32,
+}
+
+#[derive(Clone, Debug)]
+pub struct Ledger {
+    heights: Vec<i32>,
+    pub jobs: Vec<Line>,
+    /// The guess switch, once the batch is sealed.
+    pub sealed: Option<u8>,
+}
+
+impl Ledger {
+    pub fn open(heights: &[i32]) -> Ledger {
+        Ledger {
+            heights: heights.to_vec(),
+            jobs: Vec::new(),
+            sealed: None,
+        }
+    }
+
+    /// R162: a refused call enters nothing.
+    pub fn enter(&mut self, call: &Call, (refusal, handed): Answer) {
+        if refusal != 0 {
+            return;
+        }
+        match *call {
+            Call::Insert(job) => self.jobs.push(Line {
+                job,
+                added: self.sealed.is_some(),
+                own: None,
+                guess: None,
+                counted: None,
+                steps: 0,
+            }),
+            Call::Seal(guessing) => self.sealed = Some(guessing),
+            Call::Step {
+                number,
+                job,
+                values,
+                mark,
+            } => {
+                let report = Report {
+                    values,
+                    mark: u32::from(mark),
+                };
+                self.jobs[job].enter(number, handed, report);
+            }
+        }
+    }
+
+    /// R164: whether every job has a counted report.
+    pub fn all_settled(&self) -> bool {
+        self.jobs.iter().all(|line| line.counted.is_some())
+    }
+
+    /// R165, the insertion-order run of the counted reports: for each job what the
+    /// jobs before it left (R166), and the heights at the end.
+    pub fn run(&self) -> (Vec<[i32; 4]>, Vec<i32>) {
+        let mut cells = self.heights.clone();
+        let mut left = Vec::new();
+        for line in &self.jobs {
+            let mut before = [0; 4];
+            for (place, &(cell, mode)) in line.job.used().iter().enumerate() {
+                let height = &mut cells[usize::from(cell)];
+                before[place] = *height;
+                // R33. No cell stands twice in a job (R3), so none is read after
+                // it is written.
+                match line.counted {
+                    Some(counted) if mode == 1 || (mode == 2 && counted.report.mark == 1) => {
+                        *height = counted.report.values[place];
+                    }
+                    _ => {}
+                }
+            }
+            left.push(before);
+        }
+        (left, cells)
+    }
+
+    /// Panics unless R171 and R173 to R175 hold of a batch, of which are asked the
+    /// cells, and of each job how it is settled and its mark.
+    pub fn claim(&self, cells: &[i32], settled: &[(u8, u8)]) {
+        let (left, heights) = self.run();
+        assert_eq!(cells, heights, "R173");
+        assert_eq!(settled.len(), self.jobs.len());
+        for (number, line) in self.jobs.iter().enumerate() {
+            assert!(line.steps <= 4, "R171, job {number}");
+            let due = match line.counted {
+                None => (0, 0),
+                Some(counted) => {
+                    assert_eq!(counted.handed, left[number], "R174, job {number}");
+                    (1 + u8::from(counted.by_guess), counted.report.mark as u8)
+                }
+            };
+            assert_eq!(settled[number], due, "R175, job {number}");
+        }
+    }
+}
+
+impl Line {
+    /// An accepted step. Panics where what it speaks of was never entered.
+    fn enter(&mut self, number: u8, handed: [i32; 4], report: Report) {
+        self.steps += 1;
+        match number {
+            0 => {
+                self.own = Some(handed);
+                self.guess = None;
+            }
+            1 => self.guess = Some((handed, None)),
+            2 => self.count(self.own.unwrap(), report, false),
+            3 => self.guess.as_mut().unwrap().1 = Some(report),
+            _ => {
+                let (handed, report) = self.guess.unwrap();
+                self.count(handed, report.unwrap(), true);
+            }
+        }
+    }
+
+    fn count(&mut self, handed: [i32; 4], report: Report, by_guess: bool) {
+        self.counted = Some(Counted {
+            handed,
+            report,
+            by_guess,
+        });
+    }
+}
