@@ -179,7 +179,7 @@ impl Batch {
         false
     }
 
-    /// Whether the list is sealed and every job of it committed.
+    /// Whether the batch is sealed and every job of it committed.
     fn is_finished(self) -> bool
         requires { ⌜ self .«job_count» ≤ 128 ⌝ }
         ensures { λ r. ⌜ r ≡ isFinished self ⌝ }

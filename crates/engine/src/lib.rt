@@ -28,7 +28,7 @@ pub struct Run {
 pub struct Batch {
     pub cell_count: u8,
     pub job_count: u8,
-    /// 1 once the list of jobs is sealed.
+    /// 1 once the batch is sealed.
     pub sealed: u8,
     /// 1 if speculative runs may be started.
     pub speculating: u8,

@@ -3,26 +3,24 @@ use Prim.Native.Nat.{ℕ, suc, _<_, _≤_}
 use native.Mathlib.Omega.{arith}
 use native.Mathlib.Numerals.{add-one}
 use mathlib.Core.Logic.{_≢_}
-use mathlib.Core.Bool.{true, false, not, cond}
-use mathlib.Core.List.{List}
-use mathlib.Core.Path.{_≡_, refl, sym, ap, _∙_}
-use lib.IntN.{ℤ, pos}
-use lib.ListN.{length, getD, set, replicate}
+use mathlib.Core.Bool.{true, not}
+use mathlib.Core.Path.{_≡_, sym, ap, _∙_}
+use lib.IntN.{pos}
+use lib.ListN.{getD, replicate}
 use lib.Seq.{getD-set-same, getD-set-other}
 use Rattle.dependence.specs.declared.Job.{Job}
 use Rattle.dependence.specs.Job.{noJob, jobAt}
 use Rattle.rules.specs.Snapshot.{Snapshot, isLive}
 use Rattle.rules.specs.Speculation.{validity}
-use Rattle.rules.specs.Call.{Call, insert, startOwn}
+use Rattle.rules.specs.Call.{insert, startOwn}
 use Rattle.engine.specs.declared.Batch.{Batch}
-use Rattle.engine.specs.Record.{noRun, blankRun, committedAt, snapshotOf}
-use Rattle.engine.specs.Form.{inForm}
+use Rattle.engine.specs.Record.{noRun, blankRun, runAt, snapshotOf}
 use Rattle.engine.specs.Opening.{withInserted, insertRefusal, inserted}
 use Rattle.engine.specs.OpeningLaws.{insert-place}
-use Rattle.engine.specs.Ask.{shownMark, shownJob, askedJob, cellRefusal, askedCell, isFinished, askedBatch}
+use Rattle.engine.specs.Ask.{shownJob, askedJob, cellRefusal, askedCell, isFinished, askedBatch}
 use Rattle.engine.specs.AskLaws.{finished-means, gains-unfinished}
 use Rattle.engine.specs.Perform.{perform}
-use Rattle.claims.specs.Ledger.{Ledger, Entry, noEntry, isSome, isCounted, ownIsOut, guessPhase, snapshotOfLedger, enter}
+use Rattle.claims.specs.Ledger.{Ledger, Entry, noEntry, isCounted, ownIsOut, guessPhase, snapshotOfLedger, enter}
 use Rattle.claims.specs.Trace.{batchOf}
 use Rattle.claims.specs.Added.{grown, untried, Added, AddedStatement}
 use Rattle.theorem.specs.SameRefusal.{withJobs, validity-same}
@@ -45,13 +43,30 @@ module _ {b : Batch} {l : Ledger} (agree : Faithful b l) (job : Job) (e : insert
   place : b .«job_count» < 128
   place = insert-place b job e
 
-  -- Another place holds what it held.
-  pub elsewhere : (j : ℕ) → j < l .jobCount → j ≢ b .«job_count»
-  elsewhere j h q = omega (arith, agree .job-count, q)
+  -- What is held of an earlier job is as it was.
+  module _ (j : ℕ) (h : j < l .jobCount) where
+    pub elsewhere : j ≢ b .«job_count»
+    elsewhere q = omega (arith, agree .job-count, q)
 
-  pub jobs-before : (j : ℕ) → j < l .jobCount → jobAt (withInserted b job .jobs) j ≡ jobAt (b .jobs) j
-  unfolding withInserted
-  jobs-before j h = getD-set-other (b .jobs) (b .«job_count») j job noJob (elsewhere j h)
+    pub same-job : jobAt (withInserted b job .jobs) j ≡ jobAt (b .jobs) j
+    unfolding withInserted
+    same-job = getD-set-other (b .jobs) (b .«job_count») j job noJob elsewhere
+
+    pub same-run : runAt (withInserted b job) j ≡ runAt b j
+    unfolding withInserted
+    same-run = getD-set-other (b .runs) (b .«job_count») j blankRun noRun elsewhere
+
+    pub same-committed : getD (withInserted b job .committed) j 0 ≡ getD (b .committed) j 0
+    unfolding withInserted
+    same-committed = getD-set-other (b .committed) (b .«job_count») j 0 0 elsewhere
+
+    pub same-running : getD (withInserted b job .running) j 0 ≡ getD (b .running) j 0
+    unfolding withInserted
+    same-running = getD-set-other (b .running) (b .«job_count») j 0 0 elsewhere
+
+    pub same-phase : getD (withInserted b job .phase) j 0 ≡ getD (b .phase) j 0
+    unfolding withInserted
+    same-phase = getD-set-other (b .phase) (b .«job_count») j 0 0 elsewhere
 
   -- What does not depend on the number of jobs, nor on those past the ledger's, is as it was.
   pub unnoticed : {A : Type 0} (f : Snapshot → A)
@@ -63,7 +78,7 @@ module _ {b : Batch} {l : Ledger} (agree : Faithful b l) (job : Job) (e : insert
       ap f (same-snapshot agrees-after)
       ∙ sym
       (depends (suc (l .jobCount)) (λ i. jobAt (withInserted b job .jobs) i) (omega arith)
-      (λ i h. sym (jobs-before i h ∙ agree .jobs-are i h)))
+      (λ i h. sym (same-job i h ∙ agree .jobs-are i h)))
       ∙ depends (l .jobCount) (λ i. jobAt (b .jobs) i) (omega arith) (λ i h. sym (agree .jobs-are i h))
       ∙ sym (ap f (same-snapshot agree))
 
@@ -97,18 +112,9 @@ module _ {b : Batch} {l : Ledger} (agree : Faithful b l) (job : Job) (e : insert
       unnoticed (λ s. validity s j) (λ count g more same. validity-same (snapshotOfLedger l) count g same j h)
 
   old-job : (j : ℕ) → j < l .jobCount → shownJob (withInserted b job) j ≡ shownJob b j
-  unfolding shownJob withInserted
+  unfolding shownJob
   old-job j h =
-      let n = b .«job_count» in
-      let other = elsewhere j h in
-      rw (
-        old-validity j h,
-        getD-set-other (b .committed) n j 0 0 other,
-        getD-set-other (b .runs) n j blankRun noRun other,
-        getD-set-other (b .running) n j 0 0 other,
-        getD-set-other (b .phase) n j 0 0 other,
-        getD-set-other (b .jobs) n j job noJob other,
-      )
+      rw (old-validity j h, same-committed j h, same-run j h, same-running j h, same-phase j h, same-job j h)
 
   -- So is every cell.
   old-cell : (x : ℕ) → askedCell (withInserted b job) x ≡ askedCell b x

@@ -1,38 +1,35 @@
 -- An insert and a call on an earlier job may change places: the proof.
-use Prim.Native.Nat.{ℕ, suc, _-_, _<_, _≤_}
+use Prim.Native.Nat.{ℕ, _-_, _<_, _≤_}
 use native.Mathlib.Omega.{arith}
 use mathlib.Core.Logic.{_≢_}
 use mathlib.Core.Bool.{Bool, true, false, cond}
 use mathlib.Core.List.{List}
 use mathlib.Core.Path.{_≡_, refl, sym, ap, _∙_}
-use lib.Dec.{eqb, leb}
-use lib.IntN.{ℤ, pos}
-use lib.ListN.{getD, set, replicate}
-use lib.Seq.{getD-set-other, set-comm}
+use lib.Dec.{eqb}
+use lib.IntN.{ℤ}
+use lib.Seq.{set-comm}
 use borrow.Author.Tests.{lt-leb, eqb-true}
 use Rattle.laws.specs.SearchLaws.{if-or}
 use Rattle.dependence.specs.declared.Job.{Job}
-use Rattle.dependence.specs.Job.{noJob, jobAt}
-use Rattle.rules.specs.Snapshot.{Snapshot}
 use Rattle.rules.specs.Speculation.{sourceNow, bypassedNow}
-use Rattle.rules.specs.Call.{Call, insert, seal, startOwn, startSpeculation, reportOwn, reportSpeculation, commit}
+use Rattle.rules.specs.Call.{Call, insert}
 use Rattle.rules.specs.Refusals.{refusalOf}
 use Rattle.engine.specs.declared.Run.{Run}
 use Rattle.engine.specs.declared.Batch.{Batch}
-use Rattle.engine.specs.Record.{noRun, blankRun, runAt, snapshotOf}
+use Rattle.engine.specs.Record.{blankRun, snapshotOf}
 use Rattle.engine.specs.Form.{inForm}
 use Rattle.engine.specs.Opening.{insertRefusal, withInserted, inserted, withSealed}
-use Rattle.engine.specs.Steps.{withJobChanged, ownValues, speculativeAt, speculativeValues}
+use Rattle.engine.specs.Steps.{withJobChanged, speculativeAt, speculativeValues, sourcesNow}
 use Rattle.engine.specs.Perform.{perform}
 use Rattle.claims.specs.Ledger.{Ledger, snapshotOfLedger}
-use Rattle.claims.specs.Trace.{batchOf, ledgerOf}
 use Rattle.claims.specs.Added.{Earlier, seal-call, own-start, speculation-start, own-report, speculation-report, commit-step}
-use Rattle.claims.specs.Added.{AnsweredAlike, Exchange, ExchangeStatement}
+use Rattle.claims.specs.Added.{Exchange, ExchangeStatement}
 use Rattle.theorem.specs.Effect.{effect, accepts, handedBy, zeros, refusal-in-form, performed-batch, performed-handed, refused-stays}
 use Rattle.theorem.specs.SameRefusal.{HeldAlike, source-same, bypassed-same, same-refusal}
 use Rattle.theorem.specs.Faithful.{Faithful, faithful-form}
 use Rattle.theorem.specs.StepAgreement.{source-now-limit}
-use Rattle.theorem.specs.Added.{insert-leaves, agrees-after, elsewhere, jobs-before, unnoticed}
+use Rattle.theorem.specs.Added.{insert-leaves, agrees-after, elsewhere, same-job, same-run, same-committed, same-running}
+use Rattle.theorem.specs.Added.{same-phase, unnoticed}
 use Rattle.theorem.specs.Right.{Sound}
 use Rattle.theorem.specs.Always.{call-sound, sound-always}
 
@@ -69,27 +66,8 @@ module _ {b : Batch} {l : Ledger} (agree : Faithful b l) (job : Job) (e : insert
       (λ count g more same. same-refusal (snapshotOfLedger l) count g same call (earlier-held more earlier))
       ∙ sym (refusal-in-form b call (faithful-form agree))
 
-  -- What a step reads of an earlier job is as it was.
+  -- A guess of an earlier job takes from the same jobs, and looks past the same ones.
   module _ (j : ℕ) (h : j < l .jobCount) where
-    same-job : jobAt (withInserted b job .jobs) j ≡ jobAt (b .jobs) j
-    same-job = jobs-before agree job e j h
-
-    same-run : runAt (withInserted b job) j ≡ runAt b j
-    unfolding withInserted
-    same-run = getD-set-other (b .runs) (b .«job_count») j blankRun noRun (elsewhere agree job e j h)
-
-    same-committed : getD (withInserted b job .committed) j 0 ≡ getD (b .committed) j 0
-    unfolding withInserted
-    same-committed = getD-set-other (b .committed) (b .«job_count») j 0 0 (elsewhere agree job e j h)
-
-    same-running : getD (withInserted b job .running) j 0 ≡ getD (b .running) j 0
-    unfolding withInserted
-    same-running = getD-set-other (b .running) (b .«job_count») j 0 0 (elsewhere agree job e j h)
-
-    same-phase : getD (withInserted b job .phase) j 0 ≡ getD (b .phase) j 0
-    unfolding withInserted
-    same-phase = getD-set-other (b .phase) (b .«job_count») j 0 0 (elsewhere agree job e j h)
-
     same-source : (place : ℕ) → sourceNow (snapshotOf (withInserted b job)) j place ≡ sourceNow (snapshotOf b) j place
     same-source place =
         unnoticed agree job e (λ s. sourceNow s j place) (λ count g more same. source-same (snapshotOfLedger l) count g same j h place)
@@ -98,19 +76,25 @@ module _ {b : Batch} {l : Ledger} (agree : Faithful b l) (job : Job) (e : insert
     same-bypassed = λ k i.
         unnoticed agree job e (λ s. bypassedNow s j i) (λ count g more same. bypassed-same (snapshotOfLedger l) count g same j h i) k
 
-  same-value : (j : ℕ) → j < l .jobCount → (place : ℕ) → speculativeAt (withInserted b job) j place ≡ speculativeAt b j place
-  unfolding withInserted
-  same-value j h place =
-      let source = sourceNow (snapshotOf b) j place in
-      let held : source - 1 < l .jobCount = omega (arith, source-now-limit (snapshotOf b) j place) in
-      rw (same-source j h place, same-job j h, same-job (source - 1) held, same-run (source - 1) held)
+    same-sources : sourcesNow (withInserted b job) j ≡ sourcesNow b j
+    same-sources = rw (same-source 0, same-source 1, same-source 2, same-source 3)
 
-  -- It hands out the same values,
+    same-value : (place : ℕ) → speculativeAt (withInserted b job) j place ≡ speculativeAt b j place
+    unfolding withInserted
+    same-value place =
+        let source = sourceNow (snapshotOf b) j place in
+        let held : source - 1 < l .jobCount = omega (arith, source-now-limit (snapshotOf b) j place) in
+        rw (same-source place, same-job agree job e j h, same-job agree job e (source - 1) held, same-run agree job e (source - 1) held)
+
+    same-values : speculativeValues (withInserted b job) j ≡ speculativeValues b j
+    same-values = rw (same-value 0, same-value 1, same-value 2, same-value 3)
+
+  -- The call hands out the same values,
   handed-alike : {call : Call} → Earlier (l .jobCount) call → handedBy (withInserted b job) call ≡ handedBy b call
   unfolding withInserted
   handed-alike seal-call = refl
-  handed-alike (own-start {j} h) = rw (same-job j h)
-  handed-alike (speculation-start {j} h) = rw (same-value j h 0, same-value j h 1, same-value j h 2, same-value j h 3)
+  handed-alike (own-start {j} h) = rw (same-job agree job e j h)
+  handed-alike (speculation-start {j} h) = same-values j h
   handed-alike (own-report h) = refl
   handed-alike (speculation-report h) = refl
   handed-alike (commit-step h) = refl
@@ -123,24 +107,22 @@ module _ {b : Batch} {l : Ledger} (agree : Faithful b l) (job : Job) (e : insert
   left-alike : {call : Call} → Earlier (l .jobCount) call → effect (withInserted b job) call ≡ withInserted (effect b call) job
   unfolding withInserted withSealed
   left-alike seal-call = refl
-  left-alike (own-start {j} h) = rw (same-job j h, same-phase j h) (apart j h _ _ _ _ _)
+  left-alike (own-start {j} h) =
+      rw (same-job agree job e j h, same-phase agree job e j h) (apart j h _ _ _ _ _)
   left-alike (speculation-start {j} h) =
+      rw (same-values j h, same-sources j h, same-bypassed j h) (apart j h _ _ _ _ _)
+  left-alike (own-report {j} h) =
+      rw (same-job agree job e j h, same-run agree job e j h, same-phase agree job e j h) (apart j h _ _ _ _ _)
+  left-alike (speculation-report {j} h) =
       rw (
-        same-value j h 0,
-        same-value j h 1,
-        same-value j h 2,
-        same-value j h 3,
-        same-source j h 0,
-        same-source j h 1,
-        same-source j h 2,
-        same-source j h 3,
-        same-bypassed j h,
+        same-job agree job e j h,
+        same-run agree job e j h,
+        same-committed agree job e j h,
+        same-running agree job e j h,
       )
       (apart j h _ _ _ _ _)
-  left-alike (own-report {j} h) = rw (same-job j h, same-run j h, same-phase j h) (apart j h _ _ _ _ _)
-  left-alike (speculation-report {j} h) =
-      rw (same-job j h, same-run j h, same-committed j h, same-running j h) (apart j h _ _ _ _ _)
-  left-alike (commit-step {j} h) = rw (same-job j h, same-run j h, same-running j h) (apart j h _ _ _ _ _)
+  left-alike (commit-step {j} h) =
+      rw (same-job agree job e j h, same-run agree job e j h, same-running agree job e j h) (apart j h _ _ _ _ _)
 
 -- The insert is refused alike after the call, which leaves the counts.
 effect-counts : (b : Batch) {n : ℕ} {call : Call} → Earlier n call

@@ -10,11 +10,10 @@ use lib.Seq.{getD-append-seam}
 use Rattle.dependence.specs.declared.Job.{Job}
 use Rattle.dependence.specs.Job.{noJob, jobAt}
 use Rattle.rules.specs.Call.{Call, insert, seal, startOwn, startSpeculation, reportOwn, reportSpeculation, commit}
-use Rattle.engine.specs.declared.Batch.{Batch}
 use Rattle.engine.specs.Opening.{opened}
-use Rattle.claims.specs.Ledger.{Ledger, emptyLedger, enter}
-use Rattle.claims.specs.Trace.{Event, eventsOf, recorded, ledgerAfter, batchOf, ledgerOf}
-use Rattle.claims.specs.SameEnd.{SameJob, SameJobs, EndAlike}
+use Rattle.claims.specs.Ledger.{Ledger, enter}
+use Rattle.claims.specs.Trace.{Event, eventsOf, recorded, ledgerAfter, ledgerOf}
+use Rattle.claims.specs.SameEnd.{SameJob, SameJobs}
 use Rattle.claims.specs.Inserts.{jobOf, jobsOf, JobsAre, insertsOf, InsertsStatement, SameInsertsStatement}
 use Rattle.theorem.specs.Update.{at-or, update-same, update-other}
 use Rattle.theorem.specs.SameEnd.{same-end}

@@ -1,10 +1,8 @@
 -- The inserts of a list of calls might as well have come first: the proof.
-use Prim.Native.Nat.{ℕ, suc, _<_, _≤_}
+use Prim.Native.Nat.{ℕ, _≤_}
 use native.Mathlib.Omega.{arith}
-use mathlib.Core.Bool.{Bool, true, false, cond}
 use mathlib.Core.List.{List, [], _∷_, _++_, map}
 use mathlib.Core.Path.{_≡_, refl, sym, ap, _∙_}
-use lib.IntN.{ℤ}
 use borrow.Author.Tests.{leb-false, eqb-true}
 use Rattle.laws.specs.SearchLaws.{if-or}
 use Rattle.dependence.specs.declared.Job.{Job}

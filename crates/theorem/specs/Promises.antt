@@ -2,7 +2,7 @@
 use Prim.Native.Nat.{ℕ, zero, suc, _<_, _≤_}
 use native.Mathlib.Omega.{arith}
 use mathlib.Core.Logic.{_⊎_, inl, inr}
-use mathlib.Core.Bool.{Bool, true, false, cond, not, _&&_}
+use mathlib.Core.Bool.{Bool, true, false, not}
 use mathlib.Core.Option.{none, some}
 use mathlib.Core.Path.{_≡_, refl, sym, ap, _∙_}
 use lib.Dec.{leb}
@@ -15,14 +15,11 @@ use Rattle.dependence.specs.declared.Job.{Job}
 use Rattle.dependence.specs.Job.{jobAt}
 use Rattle.rules.specs.Snapshot.{Snapshot, isOut, isStored, isLive}
 use Rattle.rules.specs.Speculation.{waits, isReady, isInvalid}
-use Rattle.rules.specs.Call.{Call, insert, seal, startOwn, startSpeculation, reportOwn, reportSpeculation, commit}
+use Rattle.rules.specs.Call.{Call, startOwn, reportOwn, reportSpeculation, commit}
 use Rattle.rules.specs.Refusals.{testsOf, refusalOf}
 use Rattle.engine.specs.declared.Run.{Run}
 use Rattle.engine.specs.declared.Batch.{Batch}
-use Rattle.engine.specs.Record.{runAt, committedAt, snapshotOf}
-use Rattle.engine.specs.Form.{inForm}
-use Rattle.engine.specs.Opening.{inserted, sealedWith}
-use Rattle.engine.specs.Steps.{startedOwn, startedSpeculation, reportedOwn, reportedSpeculation, committedBy}
+use Rattle.engine.specs.Record.{runAt, committedAt}
 use Rattle.engine.specs.Perform.{perform}
 use Rattle.claims.specs.Ledger.{Counted, Entry, Ledger, isSome, isCounted, ownIsOut, guessPhase, snapshotOfLedger}
 use Rattle.claims.specs.Demand3.{judged, own-start, own-report, speculation-report, commit-step, Accepted}
