@@ -1,4 +1,5 @@
-/* A batch with several workers: one lock round the record, and threads that take the jobs that the chooser names.
+/* A batch with several workers: one lock round the record, and threads that take the jobs that the chooser names. While they
+ * are at it, corrections come in.
  *
  *     gcc -pthread host/c/threads.c target/staticlib/libsorghemi.a -o threads && ./threads 8
  *
@@ -19,11 +20,12 @@ enum {
     PARTS = 5,          /* of a check */
 };
 
-/* What the workers share. */
+/* What the threads share. */
 typedef struct {
     pthread_mutex_t lock;
-    pthread_cond_t changed; /* told whenever a job was reported or settled */
+    pthread_cond_t changed; /* told whenever a job was reported, was settled or came in, and when the line is closed */
     sorghemi_batch batch;
+    bool line_open; /* whether more jobs may come in; while they may, a finished batch is no reason to leave */
 } morning;
 
 static void expect_accepted(const char *call, uint8_t refusal)
@@ -99,18 +101,18 @@ static void take(morning *today, sorghemi_choice choice)
     pthread_cond_broadcast(&today->changed);
 }
 
-/* What each worker does until the batch is finished. */
+/* What each worker does until the batch is finished and no more jobs come in. */
 static void *work(void *shared)
 {
     morning *today = shared;
     pthread_mutex_lock(&today->lock);
-    while (!sorghemi_batch_ask_batch(&today->batch).finished) {
+    while (today->line_open || !sorghemi_batch_ask_batch(&today->batch).finished) {
         sorghemi_choice choice = sorghemi_batch_choose(&today->batch);
         switch (choice.refusal) {
         case SORGHEMI_ACCEPTED:
             take(today, choice);
             break;
-        case SORGHEMI_REFUSED_NOTHING_TO_START: /* before another worker has reported */
+        case SORGHEMI_REFUSED_NOTHING_TO_START: /* before another worker has reported or a job has come in */
             pthread_cond_wait(&today->changed, &today->lock);
             break;
         default:
@@ -121,10 +123,12 @@ static void *work(void *shared)
     return NULL;
 }
 
+/* The modes, short for the jobs below. */
+enum { R = SORGHEMI_MODE_READ, W = SORGHEMI_MODE_WRITE, M = SORGHEMI_MODE_MAYBE_WRITE };
+
 /* Six gauges. Of the tests some find something and some do not, so that guesses are kept and guesses are thrown away. */
 static void plan(sorghemi_batch *batch)
 {
-    enum { R = SORGHEMI_MODE_READ, W = SORGHEMI_MODE_WRITE, M = SORGHEMI_MODE_MAYBE_WRITE };
     const int32_t heights[] = {2900, 1500, 1480, 1720, 1390, 1610};
     const sorghemi_job jobs[] = {
         {SORGHEMI_KIND_SPIKE, 1000, 2, {{0, M}, {1, R}}}, {SORGHEMI_KIND_SHIFT, 20, 1, {{0, W}}},
@@ -141,6 +145,35 @@ static void plan(sorghemi_batch *batch)
     expect_accepted("seal", sorghemi_batch_seal(batch, 1));
 }
 
+/* The harbour master rings with a correction: the job comes in after so many parts of a check. */
+static void ring(morning *today, int parts, sorghemi_job correction)
+{
+    for (int part = 0; part < parts; part++) {
+        take_a_while();
+    }
+    pthread_mutex_lock(&today->lock);
+    expect_accepted("insert", sorghemi_batch_insert(&today->batch, correction));
+    pthread_cond_broadcast(&today->changed); /* those who wait may have something to start now */
+    pthread_mutex_unlock(&today->lock);
+}
+
+static void close_line(morning *today)
+{
+    pthread_mutex_lock(&today->lock);
+    today->line_open = false;
+    pthread_cond_broadcast(&today->changed); /* those who wait may leave now */
+    pthread_mutex_unlock(&today->lock);
+}
+
+/* The corrections. The spike test finds something, and the shift behind it mostly comes in before that is known. */
+static void take_calls(morning *today)
+{
+    ring(today, 3, (sorghemi_job){SORGHEMI_KIND_SHIFT, 5, 1, {{0, W}}});
+    ring(today, 60, (sorghemi_job){SORGHEMI_KIND_SPIKE, 30, 2, {{1, M}, {2, R}}});
+    ring(today, 2, (sorghemi_job){SORGHEMI_KIND_SHIFT, -10, 1, {{1, W}}});
+    close_line(today);
+}
+
 static void print_end(const sorghemi_batch *batch)
 {
     int32_t heights[64];
@@ -153,7 +186,7 @@ static void print_end(const sorghemi_batch *batch)
     printf("\n");
 }
 
-/* So many workers, until the last has ended. */
+/* So many workers, and the calls that come in meanwhile, until the last worker has ended. */
 static void run(morning *today, long workers)
 {
     pthread_t threads[MOST_WORKERS];
@@ -166,6 +199,7 @@ static void run(morning *today, long workers)
             exit(1);
         }
     }
+    take_calls(today);
     for (long worker = 0; worker < workers; worker++) {
         pthread_join(threads[worker], NULL);
     }
@@ -174,7 +208,7 @@ static void run(morning *today, long workers)
 
 int main(int count, char **words)
 {
-    static morning today = {.lock = PTHREAD_MUTEX_INITIALIZER, .changed = PTHREAD_COND_INITIALIZER};
+    static morning today = {.lock = PTHREAD_MUTEX_INITIALIZER, .changed = PTHREAD_COND_INITIALIZER, .line_open = true};
     long workers = count > 1 ? strtol(words[1], NULL, 10) : 8;
     if (workers < 1 || workers > MOST_WORKERS) {
         fprintf(stderr, "usage: threads [WORKERS, 1 to %d]\n", MOST_WORKERS);
