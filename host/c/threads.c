@@ -36,10 +36,10 @@ static void expect_accepted(const char *call, uint8_t refusal)
     }
 }
 
-/* How long a part of a check takes. A real check has work to do instead. */
-static void take_a_while(void)
+/* As long as so many parts of a check take. A real check has work to do instead. */
+static void take_a_while(int parts)
 {
-    const struct timespec pace = {.tv_sec = 0, .tv_nsec = 200000};
+    const struct timespec pace = {.tv_sec = 0, .tv_nsec = parts * 200000L};
     nanosleep(&pace, NULL);
 }
 
@@ -61,7 +61,7 @@ static bool check(morning *today, sorghemi_choice choice, sorghemi_job job, cons
         if (choice.step == SORGHEMI_STEP_START_SPECULATION && !is_of_use(today, choice.job)) {
             return false;
         }
-        take_a_while();
+        take_a_while(1);
     }
     sorghemi_outcome outcome = sorghemi_result(job.kind, job.parameter, handed);
     expect_accepted("result", outcome.refusal);
@@ -145,32 +145,44 @@ static void plan(sorghemi_batch *batch)
     expect_accepted("seal", sorghemi_batch_seal(batch, 1));
 }
 
-/* The harbour master rings with a correction: the job comes in after so many parts of a check. */
-static void ring(morning *today, int parts, sorghemi_job correction)
+/* Inserts a correction: those who wait may have something to start then. */
+static void insert(morning *today, sorghemi_job correction)
 {
-    for (int part = 0; part < parts; part++) {
-        take_a_while();
-    }
     pthread_mutex_lock(&today->lock);
     expect_accepted("insert", sorghemi_batch_insert(&today->batch, correction));
-    pthread_cond_broadcast(&today->changed); /* those who wait may have something to start now */
+    pthread_cond_broadcast(&today->changed);
     pthread_mutex_unlock(&today->lock);
 }
 
+static void wait_until_finished(morning *today)
+{
+    pthread_mutex_lock(&today->lock);
+    while (!sorghemi_batch_ask_batch(&today->batch).finished) {
+        pthread_cond_wait(&today->changed, &today->lock);
+    }
+    pthread_mutex_unlock(&today->lock);
+}
+
+/* No more jobs come in: those who wait may leave then. */
 static void close_line(morning *today)
 {
     pthread_mutex_lock(&today->lock);
     today->line_open = false;
-    pthread_cond_broadcast(&today->changed); /* those who wait may leave now */
+    pthread_cond_broadcast(&today->changed);
     pthread_mutex_unlock(&today->lock);
 }
 
-/* The corrections. The spike test finds something, and the shift behind it mostly comes in before that is known. */
+/* Corrections come in while the workers are at it, the last when all is done. Then the line is closed, whether all is done
+ * or not. */
 static void take_calls(morning *today)
 {
-    ring(today, 3, (sorghemi_job){SORGHEMI_KIND_SHIFT, 5, 1, {{0, W}}});
-    ring(today, 60, (sorghemi_job){SORGHEMI_KIND_SPIKE, 30, 2, {{1, M}, {2, R}}});
-    ring(today, 2, (sorghemi_job){SORGHEMI_KIND_SHIFT, -10, 1, {{1, W}}});
+    take_a_while(3);
+    insert(today, (sorghemi_job){SORGHEMI_KIND_SHIFT, 5, 1, {{0, W}}});
+    take_a_while(60);
+    insert(today, (sorghemi_job){SORGHEMI_KIND_SPIKE, 30, 2, {{1, M}, {2, R}}});
+    wait_until_finished(today);
+    insert(today, (sorghemi_job){SORGHEMI_KIND_SHIFT, -10, 1, {{1, W}}});
+    take_a_while(12);
     close_line(today);
 }
 

@@ -26,6 +26,9 @@ struct Morning {
     /// How many guesses were given up, and how many were reported too late.
     given_up: AtomicUsize,
     late: AtomicUsize,
+    /// How many corrections met a finished batch, and how many one with a run out.
+    met_finished: AtomicUsize,
+    met_run_out: AtomicUsize,
 }
 
 /// What is under the lock.
@@ -122,33 +125,35 @@ fn plan() -> Result<Batch, Refusal> {
     Ok(batch)
 }
 
-/// The harbour master's corrections: after how many parts of a check each comes in, and its job. The spike test finds something,
-/// and the shift behind it mostly comes in before that is known.
-fn corrections() -> [(u32, Job); 3] {
-    [(3, Job::shift(0, 5)), (60, Job::spike(1, 2, 30)), (2, Job::shift(1, -10))]
+/// Corrections come in while the workers are at it, the last when all is done. Then the line is closed, whether all is done or not.
+fn take_calls(morning: &Morning) {
+    thread::sleep(morning.pace * 3);
+    insert(morning, Job::shift(0, 5));
+    thread::sleep(morning.pace * 60);
+    insert(morning, Job::spike(1, 2, 30));
+    wait_until_finished(morning);
+    insert(morning, Job::shift(1, -10));
+    thread::sleep(morning.pace * 12);
+    close_line(morning);
 }
 
-/// How many corrections met a finished batch, and how many one with a run out.
-#[derive(Default)]
-pub struct Met {
-    pub finished: usize,
-    pub run_out: usize,
+fn insert(morning: &Morning, job: Job) {
+    let mut desk = morning.desk.lock().unwrap();
+    let run_out = states(&desk.batch).any(|state| state.running || state.phase == Phase::Out);
+    morning.met_finished.fetch_add(usize::from(desk.batch.finished()), Ordering::Relaxed);
+    morning.met_run_out.fetch_add(usize::from(run_out), Ordering::Relaxed);
+    accepted(desk.batch.insert(job));
+    morning.changed.notify_all(); // Those who wait may have something to start now.
 }
 
-/// Inserts the corrections while the workers are at it, and then closes the line.
-fn take_calls(morning: &Morning) -> Met {
-    let mut met = Met::default();
-    for (parts, job) in corrections() {
-        thread::sleep(morning.pace * parts);
-        let mut desk = morning.desk.lock().unwrap();
-        met.finished += usize::from(desk.batch.finished());
-        met.run_out += usize::from(states(&desk.batch).any(|state| state.running || state.phase == Phase::Out));
-        accepted(desk.batch.insert(job));
-        morning.changed.notify_all(); // Those who wait may have something to start now.
-    }
+fn wait_until_finished(morning: &Morning) {
+    let desk = morning.desk.lock().unwrap();
+    drop(morning.changed.wait_while(desk, |desk| !desk.batch.finished()).unwrap());
+}
+
+fn close_line(morning: &Morning) {
     morning.desk.lock().unwrap().line_open = false;
     morning.changed.notify_all(); // Those who wait may leave now.
-    met
 }
 
 /// How each job stands.
@@ -164,10 +169,12 @@ pub struct End {
     /// Of those thrown away.
     pub given_up: usize,
     pub late: usize,
-    pub met: Met,
+    /// Of the corrections.
+    pub met_finished: usize,
+    pub met_run_out: usize,
 }
 
-/// The batch run by so many workers, while corrections come in.
+/// The batch run by so many workers, one at least, while corrections come in.
 pub fn run(workers: usize, pace: Duration) -> Result<End, Refusal> {
     let morning = Morning {
         desk: Mutex::new(Desk { batch: plan()?, line_open: true }),
@@ -175,13 +182,15 @@ pub fn run(workers: usize, pace: Duration) -> Result<End, Refusal> {
         pace,
         given_up: AtomicUsize::new(0),
         late: AtomicUsize::new(0),
+        met_finished: AtomicUsize::new(0),
+        met_run_out: AtomicUsize::new(0),
     };
-    let met = thread::scope(|scope| {
+    thread::scope(|scope| {
         for _ in 0..workers {
             let worker = thread::Builder::new().stack_size(STACK);
             accepted(worker.spawn_scoped(scope, || work(&morning)));
         }
-        take_calls(&morning)
+        take_calls(&morning);
     });
     let batch = morning.desk.into_inner().unwrap().batch;
     Ok(End {
@@ -190,17 +199,18 @@ pub fn run(workers: usize, pace: Duration) -> Result<End, Refusal> {
         thrown_away: states(&batch).filter(|state| state.phase == Phase::Discarded).count(),
         given_up: morning.given_up.into_inner(),
         late: morning.late.into_inner(),
-        met,
+        met_finished: morning.met_finished.into_inner(),
+        met_run_out: morning.met_run_out.into_inner(),
     })
 }
 
 #[allow(dead_code)] // the test that includes this file has a main of its own
 fn main() -> Result<(), Box<dyn std::error::Error>> {
     let workers = std::env::args().nth(1).map_or(Ok(8), |text| text.parse())?;
-    let end = run(workers, Duration::from_millis(2))?;
+    let end = run(workers.max(1), Duration::from_millis(2))?;
     println!("cells: {:?}", end.heights);
     println!("guesses kept {}, thrown away {}", end.kept, end.thrown_away);
     println!("of these given up early {}, reported too late {}", end.given_up, end.late);
-    println!("corrections that met a finished batch {}, a run out {}", end.met.finished, end.met.run_out);
+    println!("corrections that met a finished batch {}, a run out {}", end.met_finished, end.met_run_out);
     Ok(())
 }
