@@ -1,10 +1,19 @@
 /* Monday's batch, run by a host in C: a spike test that finds nothing, and the shift behind it run as a guess and kept.
- * At the end the desk's numbers: what became of the guesses, on this morning and on a week of such mornings. */
+ * Then the desk's numbers: what became of the guesses, on this morning and on a week of such mornings. At last a job that
+ * comes in late: the harbour master rings with a correction when all is done. */
 #include "sorghemi.h"
 
 #include <inttypes.h>
 #include <stdio.h>
 #include <stdlib.h>
+
+static const sorghemi_job spike = {.kind = SORGHEMI_KIND_SPIKE, .parameter = 1000, .arity = 2,
+                                   .accesses = {{0, SORGHEMI_MODE_MAYBE_WRITE}, {1, SORGHEMI_MODE_READ}}};
+static const sorghemi_job shift = {.kind = SORGHEMI_KIND_SHIFT, .parameter = 20, .arity = 1,
+                                   .accesses = {{0, SORGHEMI_MODE_WRITE}}};
+static const sorghemi_job correction = {.kind = SORGHEMI_KIND_SHIFT, .parameter = 5, .arity = 1,
+                                        .accesses = {{0, SORGHEMI_MODE_WRITE}}};
+static const sorghemi_report nothing = {{0, 0, 0, 0}, 0};
 
 /* Ends the program at the first refusal. */
 static void expect_accepted(const char *call, uint8_t refusal)
@@ -28,6 +37,14 @@ static sorghemi_handed step(sorghemi_batch *batch, uint8_t number, size_t job, s
     return handed;
 }
 
+static sorghemi_choice choose(const sorghemi_batch *batch)
+{
+    sorghemi_choice choice = sorghemi_batch_choose(batch);
+    expect_accepted("choose", choice.refusal);
+    printf("chosen: step %d of job %d\n", choice.step, choice.job);
+    return choice;
+}
+
 /* What a worker does: the job's kind says what comes of the values that it was handed. */
 static sorghemi_report work(const sorghemi_job *job, const sorghemi_handed *handed)
 {
@@ -40,12 +57,19 @@ static sorghemi_report work(const sorghemi_job *job, const sorghemi_handed *hand
     return report;
 }
 
-static void print_end(const sorghemi_batch *batch)
+/* Prints whether all is done, and hands on how many jobs there are. */
+static size_t print_finished(const sorghemi_batch *batch)
 {
     sorghemi_batch_answer all = sorghemi_batch_ask_batch(batch);
     expect_accepted("ask", all.refusal);
     printf("finished: %s\n", all.finished ? "yes" : "no");
-    for (size_t job = 0; job < all.job_count; job++) {
+    return all.job_count;
+}
+
+static void print_end(const sorghemi_batch *batch)
+{
+    size_t count = print_finished(batch);
+    for (size_t job = 0; job < count; job++) {
         sorghemi_job_answer answer = sorghemi_batch_ask_job(batch, job);
         expect_accepted("ask", answer.refusal);
         printf("job %zu: how %d, mark %d\n", job, answer.committed, answer.wrote);
@@ -67,45 +91,60 @@ static void print_tally(const char *of, sorghemi_tally tally)
     }
 }
 
-static void print_week(sorghemi_tally monday)
+static void print_tallies(const sorghemi_batch *batch)
 {
+    sorghemi_tally_answer answer = sorghemi_batch_ask_tally(batch);
+    expect_accepted("ask", answer.refusal);
+    const sorghemi_tally monday = answer.tally;
     const sorghemi_tally quiet = {.jobs = 2};
     const sorghemi_tally fallen = {.jobs = 2, .started = 1, .discarded = 1};
     const sorghemi_tally week[] = {monday, quiet, monday, fallen, quiet};
     sorghemi_tally_answer total = sorghemi_total(week, sizeof week / sizeof *week);
     expect_accepted("total", total.refusal);
+    print_tally("Monday", monday);
     print_tally("the week", total.tally);
     print_tally("a quiet day", quiet);
 }
 
-int main(void)
+static void open_monday(sorghemi_batch *batch)
 {
     const int32_t heights[] = {1500, 1480};
-    const sorghemi_job spike = {.kind = SORGHEMI_KIND_SPIKE, .parameter = 1000, .arity = 2,
-                                .accesses = {{0, SORGHEMI_MODE_MAYBE_WRITE}, {1, SORGHEMI_MODE_READ}}};
-    const sorghemi_job shift = {.kind = SORGHEMI_KIND_SHIFT, .parameter = 20, .arity = 1,
-                                .accesses = {{0, SORGHEMI_MODE_WRITE}}};
-    const sorghemi_report nothing = {{0, 0, 0, 0}, 0};
+    expect_accepted("open", sorghemi_batch_open(batch, heights, 2));
+    expect_accepted("insert", sorghemi_batch_insert(batch, spike));
+    expect_accepted("insert", sorghemi_batch_insert(batch, shift));
+    expect_accepted("seal", sorghemi_batch_seal(batch, 1));
+}
 
+/* While one worker has the spike test, another takes what the chooser names: the shift, as a guess. */
+static void run_monday(sorghemi_batch *batch)
+{
+    sorghemi_handed to_spike = step(batch, SORGHEMI_STEP_START_OWN, 0, nothing);
+    sorghemi_choice choice = choose(batch);
+    sorghemi_handed to_shift = step(batch, choice.step, choice.job, nothing);
+    step(batch, SORGHEMI_STEP_REPORT_SPECULATION, 1, work(&shift, &to_shift));
+    step(batch, SORGHEMI_STEP_REPORT_OWN, 0, work(&spike, &to_spike));
+    step(batch, SORGHEMI_STEP_COMMIT, 1, nothing);
+}
+
+/* A finished batch that gains a job is unfinished again, and the job is worked like any other. */
+static void correct(sorghemi_batch *batch)
+{
+    printf("a correction comes in\n");
+    expect_accepted("insert", sorghemi_batch_insert(batch, correction));
+    print_finished(batch);
+    sorghemi_choice choice = choose(batch);
+    sorghemi_handed handed = step(batch, choice.step, choice.job, nothing);
+    step(batch, SORGHEMI_STEP_REPORT_OWN, choice.job, work(&correction, &handed));
+}
+
+int main(void)
+{
     sorghemi_batch batch;
-    expect_accepted("open", sorghemi_batch_open(&batch, heights, 2));
-    expect_accepted("insert", sorghemi_batch_insert(&batch, spike));
-    expect_accepted("insert", sorghemi_batch_insert(&batch, shift));
-    expect_accepted("seal", sorghemi_batch_seal(&batch, 1));
-
-    sorghemi_handed to_spike = step(&batch, SORGHEMI_STEP_START_OWN, 0, nothing);
-    sorghemi_choice choice = sorghemi_batch_choose(&batch);
-    expect_accepted("choose", choice.refusal);
-    printf("chosen: step %d of job %d\n", choice.step, choice.job);
-    sorghemi_handed to_shift = step(&batch, choice.step, choice.job, nothing);
-    step(&batch, SORGHEMI_STEP_REPORT_SPECULATION, 1, work(&shift, &to_shift));
-    step(&batch, SORGHEMI_STEP_REPORT_OWN, 0, work(&spike, &to_spike));
-    step(&batch, SORGHEMI_STEP_COMMIT, 1, nothing);
+    open_monday(&batch);
+    run_monday(&batch);
     print_end(&batch);
-
-    sorghemi_tally_answer monday = sorghemi_batch_ask_tally(&batch);
-    expect_accepted("ask", monday.refusal);
-    print_tally("Monday", monday.tally);
-    print_week(monday.tally);
+    print_tallies(&batch);
+    correct(&batch);
+    print_end(&batch);
     return 0;
 }

@@ -65,7 +65,7 @@ enum { /* how a job's guess is judged (R45) */
 /* The refusals: number, name and words. Refusal n is rule R(100 + n). 22 is the fault of a plan, which no call here gives. */
 #define SORGHEMI_REFUSALS(ROW) \
     ROW(1, CELL_COUNT, "a batch has 1 to 64 cells") \
-    ROW(2, SEALED, "the list of jobs is sealed") \
+    ROW(2, SEALED, "the batch is sealed already") \
     ROW(3, TOO_MANY_JOBS, "128 jobs are held already") \
     ROW(4, ACCESS_COUNT, "a job has 1 to 4 accesses") \
     ROW(5, NO_SUCH_CELL, "there is no such cell") \
@@ -73,7 +73,7 @@ enum { /* how a job's guess is judged (R45) */
     ROW(7, CELL_TWICE, "a cell stands twice in the job") \
     ROW(8, WRONG_KIND, "there is no such kind, its modes are others, or it has no result built in") \
     ROW(9, WRONG_SWITCH, "the guess switch is 0 or 1") \
-    ROW(10, NOT_SEALED, "the list of jobs is not sealed yet") \
+    ROW(10, NOT_SEALED, "the batch is not sealed yet") \
     ROW(11, NO_SUCH_JOB, "there is no such job") \
     ROW(12, GUESSING_OFF, "guessing is off") \
     ROW(13, WRONG_STATE, "the job is not in the state for this step") \
@@ -151,7 +151,7 @@ typedef struct {
 typedef struct {
     uint8_t cell_count;
     uint8_t job_count;
-    uint8_t sealed;      /* 1 once the list of jobs is sealed, else 0 */
+    uint8_t sealed;      /* 1 once the batch is sealed, else 0 */
     uint8_t speculating; /* 1 if guesses may be started, else 0 */
     int32_t cells[64];
     sorghemi_job jobs[128];
@@ -222,7 +222,8 @@ typedef struct {
     sorghemi_job job;
 } sorghemi_job_answer;
 
-/* How the batch stands: finished once it is sealed and every job settled. Zeros where it is refused. */
+/* How the batch stands: finished while it is sealed and every job settled, so a job that is inserted makes it unfinished
+ * again. Zeros where it is refused. */
 typedef struct {
     uint8_t refusal;
     uint8_t cell_count;
@@ -271,7 +272,7 @@ typedef struct {
 extern "C" {
 #endif
 
-/* The library. Refusals: open 1; insert 2 to 8; seal 2, 9; a step 10 to 18, and 21 for a number above 4; choose 10, 19;
+/* The library. Refusals: open 1; insert 3 to 8; seal 2, 9; a step 10 to 18, and 21 for a number above 4; choose 10, 19;
  * ask_cell 5; ask_job 11; copy_out 20; total 23; and of the calls that take a record, before all others, 32 where it is out
  * of form. */
 sorghemi_answer sorghemi_open(const int32_t *heights, size_t count);
@@ -373,7 +374,8 @@ static inline uint8_t sorghemi_batch_open(sorghemi_batch *batch, const int32_t *
     return answer.refusal;
 }
 
-/* Inserts the job into the record as its last one. */
+/* Inserts the job into the record as its last one, with the next number. It may come at any moment, before or after the
+ * seal, with runs out or all others settled (R6); the batch is then not finished, and nothing else is disturbed (R180). */
 static inline uint8_t sorghemi_batch_insert(sorghemi_batch *batch, sorghemi_job job)
 {
     sorghemi_answer answer = sorghemi_insert(*batch, job);
@@ -381,7 +383,8 @@ static inline uint8_t sorghemi_batch_insert(sorghemi_batch *batch, sorghemi_job 
     return answer.refusal;
 }
 
-/* Seals the record's list of jobs. */
+/* Seals the record, once for a batch: says whether guesses may be started (1) or not (0). Steps and choices come after it,
+ * and further jobs may. */
 static inline uint8_t sorghemi_batch_seal(sorghemi_batch *batch, uint8_t guessing)
 {
     sorghemi_answer answer = sorghemi_seal(*batch, guessing);

@@ -1,4 +1,5 @@
-/* A batch with several workers: one lock round the record, and threads that take the jobs that the chooser names.
+/* A batch with several workers: one lock round the record, and threads that take the jobs that the chooser names. While they
+ * are at it, corrections come in.
  *
  *     gcc -pthread host/c/threads.c target/staticlib/libsorghemi.a -o threads && ./threads 8
  *
@@ -19,11 +20,12 @@ enum {
     PARTS = 5,          /* of a check */
 };
 
-/* What the workers share. */
+/* What the threads share. */
 typedef struct {
     pthread_mutex_t lock;
-    pthread_cond_t changed; /* told whenever a job was reported or settled */
+    pthread_cond_t changed; /* told whenever a job was reported, was settled or came in, and when the line is closed */
     sorghemi_batch batch;
+    bool line_open; /* whether more jobs may come in; while they may, a finished batch is no reason to leave */
 } morning;
 
 static void expect_accepted(const char *call, uint8_t refusal)
@@ -34,10 +36,10 @@ static void expect_accepted(const char *call, uint8_t refusal)
     }
 }
 
-/* How long a part of a check takes. A real check has work to do instead. */
-static void take_a_while(void)
+/* As long as so many parts of a check take. A real check has work to do instead. */
+static void take_a_while(int parts)
 {
-    const struct timespec pace = {.tv_sec = 0, .tv_nsec = 200000};
+    const struct timespec pace = {.tv_sec = 0, .tv_nsec = parts * 200000L};
     nanosleep(&pace, NULL);
 }
 
@@ -59,7 +61,7 @@ static bool check(morning *today, sorghemi_choice choice, sorghemi_job job, cons
         if (choice.step == SORGHEMI_STEP_START_SPECULATION && !is_of_use(today, choice.job)) {
             return false;
         }
-        take_a_while();
+        take_a_while(1);
     }
     sorghemi_outcome outcome = sorghemi_result(job.kind, job.parameter, handed);
     expect_accepted("result", outcome.refusal);
@@ -99,18 +101,18 @@ static void take(morning *today, sorghemi_choice choice)
     pthread_cond_broadcast(&today->changed);
 }
 
-/* What each worker does until the batch is finished. */
+/* What each worker does until the batch is finished and no more jobs come in. */
 static void *work(void *shared)
 {
     morning *today = shared;
     pthread_mutex_lock(&today->lock);
-    while (!sorghemi_batch_ask_batch(&today->batch).finished) {
+    while (today->line_open || !sorghemi_batch_ask_batch(&today->batch).finished) {
         sorghemi_choice choice = sorghemi_batch_choose(&today->batch);
         switch (choice.refusal) {
         case SORGHEMI_ACCEPTED:
             take(today, choice);
             break;
-        case SORGHEMI_REFUSED_NOTHING_TO_START: /* before another worker has reported */
+        case SORGHEMI_REFUSED_NOTHING_TO_START: /* before another worker has reported or a job has come in */
             pthread_cond_wait(&today->changed, &today->lock);
             break;
         default:
@@ -121,10 +123,12 @@ static void *work(void *shared)
     return NULL;
 }
 
+/* The modes, short for the jobs below. */
+enum { R = SORGHEMI_MODE_READ, W = SORGHEMI_MODE_WRITE, M = SORGHEMI_MODE_MAYBE_WRITE };
+
 /* Six gauges. Of the tests some find something and some do not, so that guesses are kept and guesses are thrown away. */
 static void plan(sorghemi_batch *batch)
 {
-    enum { R = SORGHEMI_MODE_READ, W = SORGHEMI_MODE_WRITE, M = SORGHEMI_MODE_MAYBE_WRITE };
     const int32_t heights[] = {2900, 1500, 1480, 1720, 1390, 1610};
     const sorghemi_job jobs[] = {
         {SORGHEMI_KIND_SPIKE, 1000, 2, {{0, M}, {1, R}}}, {SORGHEMI_KIND_SHIFT, 20, 1, {{0, W}}},
@@ -141,6 +145,47 @@ static void plan(sorghemi_batch *batch)
     expect_accepted("seal", sorghemi_batch_seal(batch, 1));
 }
 
+/* Inserts a correction: those who wait may have something to start then. */
+static void insert(morning *today, sorghemi_job correction)
+{
+    pthread_mutex_lock(&today->lock);
+    expect_accepted("insert", sorghemi_batch_insert(&today->batch, correction));
+    pthread_cond_broadcast(&today->changed);
+    pthread_mutex_unlock(&today->lock);
+}
+
+static void wait_until_finished(morning *today)
+{
+    pthread_mutex_lock(&today->lock);
+    while (!sorghemi_batch_ask_batch(&today->batch).finished) {
+        pthread_cond_wait(&today->changed, &today->lock);
+    }
+    pthread_mutex_unlock(&today->lock);
+}
+
+/* No more jobs come in: those who wait may leave then. */
+static void close_line(morning *today)
+{
+    pthread_mutex_lock(&today->lock);
+    today->line_open = false;
+    pthread_cond_broadcast(&today->changed);
+    pthread_mutex_unlock(&today->lock);
+}
+
+/* Corrections come in while the workers are at it, the last when all is done. Then the line is closed, whether all is done
+ * or not. */
+static void take_calls(morning *today)
+{
+    take_a_while(3);
+    insert(today, (sorghemi_job){SORGHEMI_KIND_SHIFT, 5, 1, {{0, W}}});
+    take_a_while(60);
+    insert(today, (sorghemi_job){SORGHEMI_KIND_SPIKE, 30, 2, {{1, M}, {2, R}}});
+    wait_until_finished(today);
+    insert(today, (sorghemi_job){SORGHEMI_KIND_SHIFT, -10, 1, {{1, W}}});
+    take_a_while(12);
+    close_line(today);
+}
+
 static void print_end(const sorghemi_batch *batch)
 {
     int32_t heights[64];
@@ -153,7 +198,7 @@ static void print_end(const sorghemi_batch *batch)
     printf("\n");
 }
 
-/* So many workers, until the last has ended. */
+/* So many workers, and the calls that come in meanwhile, until the last worker has ended. */
 static void run(morning *today, long workers)
 {
     pthread_t threads[MOST_WORKERS];
@@ -166,6 +211,7 @@ static void run(morning *today, long workers)
             exit(1);
         }
     }
+    take_calls(today);
     for (long worker = 0; worker < workers; worker++) {
         pthread_join(threads[worker], NULL);
     }
@@ -174,7 +220,7 @@ static void run(morning *today, long workers)
 
 int main(int count, char **words)
 {
-    static morning today = {.lock = PTHREAD_MUTEX_INITIALIZER, .changed = PTHREAD_COND_INITIALIZER};
+    static morning today = {.lock = PTHREAD_MUTEX_INITIALIZER, .changed = PTHREAD_COND_INITIALIZER, .line_open = true};
     long workers = count > 1 ? strtol(words[1], NULL, 10) : 8;
     if (workers < 1 || workers > MOST_WORKERS) {
         fprintf(stderr, "usage: threads [WORKERS, 1 to %d]\n", MOST_WORKERS);

@@ -1,11 +1,13 @@
-//! A batch with several workers: one lock round the batch, and threads that take the jobs that the chooser names.
+//! A batch with several workers: one lock round the batch, and threads that take the jobs that the chooser names. While they are
+//! at it, corrections come in.
 //!
 //!     cargo run --example threads -- 8
 //!
 //! How the threads get on decides which guesses are made, kept and thrown away, and never what the heights are at the end.
 //! host/README.md has what a host with threads has to know; host/c/threads.c is the same in C.
 
-use sorghemi::{Batch, Choice, Committed, Job, Phase, Refusal, Report, Step, Validity};
+use sorghemi::{Batch, Choice, Committed, Job, JobState, Phase, Refusal, Report, Step, Validity};
+use std::fmt::Display;
 use std::sync::atomic::{AtomicUsize, Ordering};
 use std::sync::{Condvar, Mutex};
 use std::thread;
@@ -14,47 +16,57 @@ use std::time::Duration;
 /// Bytes of stack for a worker, enough for any call (host/README.md).
 const STACK: usize = 256 * 1024;
 
-/// What the workers share.
+/// What the threads share.
 struct Morning {
-    batch: Mutex<Batch>,
-    /// Told whenever a job was reported or settled.
+    desk: Mutex<Desk>,
+    /// Told whenever a job was reported, was settled or came in, and when the line is closed.
     changed: Condvar,
     /// How long a part of a check takes. A real check has work to do instead.
     pace: Duration,
     /// How many guesses were given up, and how many were reported too late.
     given_up: AtomicUsize,
     late: AtomicUsize,
+    /// How many corrections met a finished batch, and how many one with a run out.
+    met_finished: AtomicUsize,
+    met_run_out: AtomicUsize,
 }
 
-/// What each worker does until the batch is finished.
+/// What is under the lock.
+struct Desk {
+    batch: Batch,
+    /// Whether more jobs may come in. While they may, a finished batch is no reason to leave.
+    line_open: bool,
+}
+
+/// What each worker does until the batch is finished and no more jobs come in.
 fn work(morning: &Morning) {
-    let mut batch = morning.batch.lock().unwrap();
-    while !batch.finished() {
-        let choice = match batch.choose() {
-            // Nothing to start before another worker has reported.
+    let mut desk = morning.desk.lock().unwrap();
+    while desk.line_open || !desk.batch.finished() {
+        let choice = match desk.batch.choose() {
+            // Nothing to start before another worker has reported or a job has come in.
             Err(Refusal::NOTHING_TO_START) => {
-                batch = morning.changed.wait(batch).unwrap();
+                desk = morning.changed.wait(desk).unwrap();
                 continue;
             }
             choice => accepted(choice),
         };
-        let handed = accepted(batch.step(choice.step, choice.job, Report::default()));
+        let handed = accepted(desk.batch.step(choice.step, choice.job, Report::default()));
         if choice.step != Step::Commit {
-            let job = accepted(batch.job(choice.job)).job;
-            drop(batch); // The others go on while this one checks.
+            let job = accepted(desk.batch.job(choice.job)).job;
+            drop(desk); // The others go on while this one checks.
             let report = check(morning, choice, job, handed);
-            batch = morning.batch.lock().unwrap();
+            desk = morning.desk.lock().unwrap();
             if let Some(report) = report {
-                hand_in(morning, &mut batch, choice, report);
+                hand_in(morning, &mut desk.batch, choice, report);
             }
         }
         morning.changed.notify_all();
     }
 }
 
-/// What the call answered. A refusal here is a mistake of this program and ends it: a worker that only panicked would leave the
-/// others waiting for its report.
-fn accepted<T>(answer: Result<T, Refusal>) -> T {
+/// What the call answered. A refusal here is a mistake of this program and ends it: a thread that only panicked would leave the
+/// others waiting for its report, or for the line to be closed.
+fn accepted<T, E: Display>(answer: Result<T, E>) -> T {
     answer.unwrap_or_else(|refusal| {
         eprintln!("{refusal}");
         std::process::exit(1)
@@ -77,7 +89,7 @@ fn check(morning: &Morning, choice: Choice, job: Job, handed: [i32; 4]) -> Optio
 /// Whether the guess that a worker has may still be settled. It may not where it has fallen, or where the job's own run has taken
 /// its place already.
 fn is_of_use(morning: &Morning, job: usize) -> bool {
-    let state = accepted(morning.batch.lock().unwrap().job(job));
+    let state = accepted(morning.desk.lock().unwrap().batch.job(job));
     matches!(state.validity, Validity::Undecided | Validity::Valid)
 }
 
@@ -113,6 +125,42 @@ fn plan() -> Result<Batch, Refusal> {
     Ok(batch)
 }
 
+/// Corrections come in while the workers are at it, the last when all is done. Then the line is closed, whether all is done or not.
+fn take_calls(morning: &Morning) {
+    thread::sleep(morning.pace * 3);
+    insert(morning, Job::shift(0, 5));
+    thread::sleep(morning.pace * 60);
+    insert(morning, Job::spike(1, 2, 30));
+    wait_until_finished(morning);
+    insert(morning, Job::shift(1, -10));
+    thread::sleep(morning.pace * 12);
+    close_line(morning);
+}
+
+fn insert(morning: &Morning, job: Job) {
+    let mut desk = morning.desk.lock().unwrap();
+    let run_out = states(&desk.batch).any(|state| state.running || state.phase == Phase::Out);
+    morning.met_finished.fetch_add(usize::from(desk.batch.finished()), Ordering::Relaxed);
+    morning.met_run_out.fetch_add(usize::from(run_out), Ordering::Relaxed);
+    accepted(desk.batch.insert(job));
+    morning.changed.notify_all(); // Those who wait may have something to start now.
+}
+
+fn wait_until_finished(morning: &Morning) {
+    let desk = morning.desk.lock().unwrap();
+    drop(morning.changed.wait_while(desk, |desk| !desk.batch.finished()).unwrap());
+}
+
+fn close_line(morning: &Morning) {
+    morning.desk.lock().unwrap().line_open = false;
+    morning.changed.notify_all(); // Those who wait may leave now.
+}
+
+/// How each job stands.
+fn states(batch: &Batch) -> impl Iterator<Item = JobState> + '_ {
+    (0..).map_while(|job| batch.job(job).ok())
+}
+
 /// How a morning ended.
 pub struct End {
     pub heights: Vec<i32>,
@@ -121,40 +169,48 @@ pub struct End {
     /// Of those thrown away.
     pub given_up: usize,
     pub late: usize,
+    /// Of the corrections.
+    pub met_finished: usize,
+    pub met_run_out: usize,
 }
 
-/// The batch run by so many workers.
+/// The batch run by so many workers, one at least, while corrections come in.
 pub fn run(workers: usize, pace: Duration) -> Result<End, Refusal> {
     let morning = Morning {
-        batch: Mutex::new(plan()?),
+        desk: Mutex::new(Desk { batch: plan()?, line_open: true }),
         changed: Condvar::new(),
         pace,
         given_up: AtomicUsize::new(0),
         late: AtomicUsize::new(0),
+        met_finished: AtomicUsize::new(0),
+        met_run_out: AtomicUsize::new(0),
     };
     thread::scope(|scope| {
         for _ in 0..workers {
             let worker = thread::Builder::new().stack_size(STACK);
-            worker.spawn_scoped(scope, || work(&morning)).expect("a thread");
+            accepted(worker.spawn_scoped(scope, || work(&morning)));
         }
+        take_calls(&morning);
     });
-    let batch = morning.batch.into_inner().unwrap();
-    let states: Vec<_> = (0..).map_while(|job| batch.job(job).ok()).collect();
+    let batch = morning.desk.into_inner().unwrap().batch;
     Ok(End {
         heights: batch.cells(),
-        kept: states.iter().filter(|state| state.committed == Committed::BySpeculation).count(),
-        thrown_away: states.iter().filter(|state| state.phase == Phase::Discarded).count(),
+        kept: states(&batch).filter(|state| state.committed == Committed::BySpeculation).count(),
+        thrown_away: states(&batch).filter(|state| state.phase == Phase::Discarded).count(),
         given_up: morning.given_up.into_inner(),
         late: morning.late.into_inner(),
+        met_finished: morning.met_finished.into_inner(),
+        met_run_out: morning.met_run_out.into_inner(),
     })
 }
 
 #[allow(dead_code)] // the test that includes this file has a main of its own
 fn main() -> Result<(), Box<dyn std::error::Error>> {
     let workers = std::env::args().nth(1).map_or(Ok(8), |text| text.parse())?;
-    let end = run(workers, Duration::from_millis(2))?;
+    let end = run(workers.max(1), Duration::from_millis(2))?;
     println!("cells: {:?}", end.heights);
     println!("guesses kept {}, thrown away {}", end.kept, end.thrown_away);
     println!("of these given up early {}, reported too late {}", end.given_up, end.late);
+    println!("corrections that met a finished batch {}, a run out {}", end.met_finished, end.met_run_out);
     Ok(())
 }

@@ -46,11 +46,11 @@ pub struct Progress {
     pub cells: usize,
     /// How many jobs there are.
     pub jobs: usize,
-    /// Whether the list of jobs is sealed.
+    /// Whether the batch is sealed.
     pub sealed: bool,
     /// Whether guesses may be started.
     pub speculating: bool,
-    /// Whether it is sealed and every job settled.
+    /// Whether it is sealed and every job settled. A job that is inserted makes it false again.
     pub finished: bool,
 }
 
@@ -98,13 +98,40 @@ impl Batch {
         &self.record
     }
 
-    /// Inserts the job as the last one, and tells its number.
+    /// Inserts the job as the last one, and tells its number, the next.
+    ///
+    /// It may be called at any moment: before [`seal`](Batch::seal) or after it, with runs out or all other jobs settled (R6). The
+    /// batch is then not finished (R8). No run is disturbed, and no guess falls: the job is later than all others (R180).
+    ///
+    /// A correction that comes in when all is done:
+    ///
+    /// ```
+    /// use sorghemi::{Batch, Job, Report, Step};
+    ///
+    /// # fn main() -> Result<(), sorghemi::Refusal> {
+    /// let mut batch = Batch::open(&[1500])?;
+    /// batch.insert(Job::shift(0, 20))?;
+    /// batch.seal(true)?;
+    /// batch.start_own(0)?;
+    /// batch.report_own(0, Report::of(&[1520]))?;
+    /// assert!(batch.finished());
+    ///
+    /// assert_eq!(batch.insert(Job::shift(0, 5))?, 1);
+    /// assert!(!batch.finished());
+    /// let choice = batch.choose()?;
+    /// assert_eq!((choice.step, choice.job), (Step::StartOwn, 1));
+    /// assert_eq!(batch.start_own(1)?, [1520, 0, 0, 0]);
+    /// batch.report_own(1, Report::of(&[1525]))?;
+    /// assert!(batch.finished());
+    /// assert_eq!(batch.cells(), [1525]);
+    /// # Ok(())
+    /// # }
+    /// ```
     ///
     /// # Errors
     ///
-    /// [`SEALED`](Refusal::SEALED), [`TOO_MANY_JOBS`](Refusal::TOO_MANY_JOBS), [`ACCESS_COUNT`](Refusal::ACCESS_COUNT),
-    /// [`NO_SUCH_CELL`](Refusal::NO_SUCH_CELL), [`NO_SUCH_MODE`](Refusal::NO_SUCH_MODE), [`CELL_TWICE`](Refusal::CELL_TWICE),
-    /// [`WRONG_KIND`](Refusal::WRONG_KIND).
+    /// [`TOO_MANY_JOBS`](Refusal::TOO_MANY_JOBS), [`ACCESS_COUNT`](Refusal::ACCESS_COUNT), [`NO_SUCH_CELL`](Refusal::NO_SUCH_CELL),
+    /// [`NO_SUCH_MODE`](Refusal::NO_SUCH_MODE), [`CELL_TWICE`](Refusal::CELL_TWICE), [`WRONG_KIND`](Refusal::WRONG_KIND).
     pub fn insert(&mut self, job: Job) -> Result<usize, Refusal> {
         let answer = unsafe { raw::sorghemi_insert(self.record, job) };
         Refusal::check(answer.refusal)?;
@@ -112,7 +139,7 @@ impl Batch {
         Ok(self.record.job_count as usize - 1)
     }
 
-    /// Fixes the list of jobs, and says whether guesses may be started.
+    /// Says, once for a batch, whether guesses may be started. Steps and choices come after it, and further jobs may (R7).
     ///
     /// # Errors
     ///
@@ -266,7 +293,7 @@ impl Batch {
         })
     }
 
-    /// Whether the batch is sealed and every job settled (R8).
+    /// Whether the batch is sealed and every job settled (R8). It may become false again: [`insert`](Batch::insert) makes it so.
     pub fn finished(&self) -> bool {
         self.progress().expect(IN_FORM).finished
     }

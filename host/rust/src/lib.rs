@@ -2,8 +2,8 @@
 //!
 //! A batch holds cells (heights in millimetres) and jobs in the order of insertion. Workers take jobs when they are free; a
 //! later job may run early as a guess (a *speculative* run), as if the uncertain jobs before it changed nothing, and the
-//! guess is kept or thrown away. Whatever the order, the final heights are those of the counted reports applied in the order
-//! of insertion.
+//! guess is kept or thrown away. Further jobs may come in meanwhile, or when all is done ([`Batch::insert`]). Whatever the
+//! order of the runs, the final heights are those of the counted reports applied in the order of insertion.
 //!
 //! Monday's batch: a spike test that mostly changes nothing, and a shift behind it.
 //!

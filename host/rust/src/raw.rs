@@ -48,7 +48,7 @@ pub struct Record {
     pub cell_count: u8,
     /// How many jobs there are.
     pub job_count: u8,
-    /// 1 once the list of jobs is sealed.
+    /// 1 once the batch is sealed.
     pub sealed: u8,
     /// 1 if guesses may be started.
     pub speculating: u8,

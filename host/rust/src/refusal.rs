@@ -46,7 +46,7 @@ macro_rules! refusals {
 // The header for C and host/README.md have the same table (tests/names.rs).
 refusals! {
     1 CELL_COUNT "a batch has 1 to 64 cells"
-    2 SEALED "the list of jobs is sealed"
+    2 SEALED "the batch is sealed already"
     3 TOO_MANY_JOBS "128 jobs are held already"
     4 ACCESS_COUNT "a job has 1 to 4 accesses"
     5 NO_SUCH_CELL "there is no such cell"
@@ -54,7 +54,7 @@ refusals! {
     7 CELL_TWICE "a cell stands twice in the job"
     8 WRONG_KIND "there is no such kind, its modes are others, or it has no result built in"
     9 WRONG_SWITCH "the guess switch is 0 or 1"
-    10 NOT_SEALED "the list of jobs is not sealed yet"
+    10 NOT_SEALED "the batch is not sealed yet"
     11 NO_SUCH_JOB "there is no such job"
     12 GUESSING_OFF "guessing is off"
     13 WRONG_STATE "the job is not in the state for this step"

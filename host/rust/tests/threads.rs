@@ -1,28 +1,37 @@
-//! The example with threads, many times over: whatever the threads do, the heights at the end are the same.
+//! The example with threads, many times over: whatever the threads do and whenever the corrections come in, the heights at the end
+//! are the same.
 
 #[path = "../examples/threads.rs"]
 mod threads;
 
+use std::sync::mpsc;
 use std::time::Duration;
+
+/// The example, which fails here where it would go on for ever: a worker that nobody wakes waits.
+fn run(workers: usize, pace: Duration) -> threads::End {
+    let (sender, receiver) = mpsc::channel();
+    std::thread::spawn(move || sender.send(threads::run(workers, pace)));
+    receiver.recv_timeout(Duration::from_secs(60)).expect("an end within a minute").unwrap()
+}
 
 #[test]
 fn the_end_is_the_same_whatever_the_threads_do() {
-    let mut became = [0; 4];
-    // The turns are worth something only if all that can become of a guess has come up, so they go on until it has.
+    let mut seen = [0; 6];
+    // The turns are worth something only if all that can become of a guess has come up, and if corrections have met a finished
+    // batch and a run that was out. So they go on until that is so.
     for turn in 0..2000 {
-        if turn >= 100 && became.iter().all(|&times| times > 0) {
+        if turn >= 100 && seen.iter().all(|&times| times > 0) {
             break;
         }
         let pace = Duration::from_micros([0, 20, 100, 400][turn % 4]);
-        let end = threads::run(1 + turn % 9, pace).unwrap();
+        let end = run(1 + turn % 9, pace);
         // Worked out from R12 to R17, one job after the other; host/c/threads.stdout has the same.
-        assert_eq!(end.heights, [1500, 1485, 1520, 1492, 1400, 1499], "turn {turn}");
-        for (sum, more) in became.iter_mut().zip([end.kept, end.thrown_away, end.given_up, end.late]) {
-            *sum += more;
-        }
+        assert_eq!(end.heights, [1505, 1510, 1520, 1492, 1400, 1499], "turn {turn}");
+        let more = [end.kept, end.thrown_away, end.given_up, end.late, end.met_finished, end.met_run_out];
+        seen.iter_mut().zip(more).for_each(|(sum, more)| *sum += more);
     }
-    println!("guesses kept, thrown away, of these given up and reported too late: {became:?}");
-    assert!(became.iter().all(|&times| times > 0), "{became:?}");
+    println!("guesses kept, thrown away, of these given up and reported too late; met finished, with a run out: {seen:?}");
+    assert!(seen.iter().all(|&times| times > 0), "{seen:?}");
 }
 
 /// The page says how much stack is enough. The example's workers have no more; a plan's answer needs the most.
