@@ -14,7 +14,7 @@ pub extern "C" fn sorghemi_open(heights: &[i32]) -> Answer
     Batch::open(heights)
 }
 
-/// The batch with the job as its last one. Refused with 2 to 8, or 32.
+/// The batch with the job as its last one, sealed or not. Refused with 3 to 8, or 32.
 #[no_mangle]
 pub extern "C" fn sorghemi_insert(batch: Batch, job: Job) -> Answer
     ensures { λ r. ⌜ r ≡ inserted batch job ⌝ }
@@ -22,7 +22,7 @@ pub extern "C" fn sorghemi_insert(batch: Batch, job: Job) -> Answer
     batch.insert(job)
 }
 
-/// The batch with its list of jobs fixed; `switch` 1 allows speculative runs, 0 does not. Refused with 2, 9 or 32.
+/// The batch sealed: steps may be taken; `switch` 1 allows speculative runs, 0 does not. Refused with 2, 9 or 32.
 #[no_mangle]
 pub extern "C" fn sorghemi_seal(batch: Batch, switch: u8) -> Answer
     ensures { λ r. ⌜ r ≡ sealedWith batch switch ⌝ }
