@@ -64,7 +64,7 @@ pub struct Plain {
     sealed: bool,
     speculating: bool,
 
-    // Fixed once the jobs are inserted and sealed.
+    // These follow from the jobs; chain lengths are there once the batch is sealed.
     uses: [CellUse; MOST_CELLS],
     waits_for: [JobSet; MOST_JOBS],
     chain_lengths: [u8; MOST_JOBS],
@@ -157,9 +157,6 @@ impl Plain {
     }
 
     pub fn insert(&mut self, job: &Job) -> Result<(), u8> {
-        if self.sealed {
-            return Err(2);
-        }
         if self.job_count == MOST_JOBS {
             return Err(3);
         }
@@ -184,6 +181,9 @@ impl Plain {
         self.jobs[number] = *job;
         self.waits_for[number] = waits_for;
         self.job_count += 1;
+        if self.sealed {
+            self.compute_chain_lengths();
+        }
         Ok(())
     }
 
@@ -629,7 +629,7 @@ mod tests {
         assert_eq!(full.seal(2), Err(9));
         assert_eq!(full.seal(0), Ok(()));
         assert_eq!(full.seal(0), Err(2));
-        assert_eq!(full.insert(&Job::new(1, 0, &[63])), Err(2));
+        assert_eq!(full.insert(&Job::new(1, 0, &[63])), Err(3));
         assert_eq!(full.choose(), Ok((0, 0, 128)));
         assert_eq!(
             (full.start_speculation(127), full.commit(128)),

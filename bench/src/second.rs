@@ -145,6 +145,14 @@ mod tests {
         }
     }
 
+    /// Inserts a job into both; one if it was accepted.
+    fn insert_in_both(random: &mut Random, plain: &mut Plain, other: &mut SecondHand, cells: usize) -> usize {
+        let job = random_job(random, cells as u32);
+        let answer = Engine::insert(plain, &job);
+        assert_eq!(answer, other.insert(&job), "{job:?}");
+        usize::from(answer == 0)
+    }
+
     /// One list of calls; counts each pair of step number and answer.
     fn one_list(random: &mut Random, answers: &mut [[usize; 20]; 5]) {
         let cells = 1 + random.below(6) as usize;
@@ -153,16 +161,17 @@ mod tests {
         let mut other = SecondHand::open(&heights);
         let mut jobs = 0;
         for _ in 0..random.below(18) {
-            let job = random_job(random, cells as u32);
-            let answer = Engine::insert(&mut plain, &job);
-            assert_eq!(answer, other.insert(&job), "{job:?}");
-            jobs += usize::from(answer == 0);
+            jobs += insert_in_both(random, &mut plain, &mut other, cells);
         }
         for turn in 0..10 + 6 * jobs {
             // Some lists have steps before sealing, or are sealed again.
             if turn == 2 || rarely(random, 50) == 1 {
                 let switch = [1, 1, 1, 1, 1, 1, 0, 2][random.below(8) as usize];
                 assert_eq!(Engine::seal(&mut plain, switch), other.seal(switch));
+            }
+            // Some jobs come when the others are under way, or settled.
+            if rarely(random, 12) == 1 {
+                jobs += insert_in_both(random, &mut plain, &mut other, cells);
             }
             let (step, job) = random_step(random, &other, jobs as u32);
             let wrote = [0, 0, 0, 1, 1, 2][random.below(6) as usize];
