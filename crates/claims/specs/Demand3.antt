@@ -53,7 +53,7 @@ pub record Demand3 (b : Batch) (l : Ledger) : Type 0 where
   pub settled : (j : ℕ) → j < l .jobCount → isCommitted (askedJob b j .committed) ≡ isSome (l .entry j .counted)
   pub marks : (j : ℕ) (c : Counted) → l .entry j .counted ≡ some c → askedJob b j .wrote ≡ c .report .wrote
 
--- The claim for every accepted opening and every list of calls.
+-- The claim for every accepted opening and every list of calls, with inserts anywhere in it, after the seal too.
 abbrev pub Demand3Statement : Type 0
 Demand3Statement =
     (heights : List ℤ) (calls : List Call) → opened heights .refusal ≡ 0

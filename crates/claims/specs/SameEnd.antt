@@ -40,8 +40,8 @@ pub record EndAlike (cellCount jobCount : ℕ) (b d : Batch) : Type 0 where
   pub cells-same : (x : ℕ) → x < cellCount → askedCell b x ≡ askedCell d x
   pub marks-same : (j : ℕ) → j < jobCount → askedJob b j .wrote ≡ askedJob d j .wrote
 
--- The claim for every accepted opening and every two lists of calls that inserted the same jobs and settled all of them,
--- with reports by the same rules.
+-- The claim for every accepted opening and every two lists of calls that inserted the same jobs, each at its own moments, and
+-- settled all of them, with reports by the same rules.
 abbrev pub SameEndStatement : Type 0
 SameEndStatement =
     (heights : List ℤ) (first second : List Call) → opened heights .refusal ≡ 0
