@@ -146,7 +146,12 @@ mod tests {
     }
 
     /// Inserts a job into both; one if it was accepted.
-    fn insert_in_both(random: &mut Random, plain: &mut Plain, other: &mut SecondHand, cells: usize) -> usize {
+    fn insert_in_both(
+        random: &mut Random,
+        plain: &mut Plain,
+        other: &mut SecondHand,
+        cells: usize,
+    ) -> usize {
         let job = random_job(random, cells as u32);
         let answer = Engine::insert(plain, &job);
         assert_eq!(answer, other.insert(&job), "{job:?}");
