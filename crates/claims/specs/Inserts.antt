@@ -1,7 +1,7 @@
 -- R162: the ledger's jobs are those of the accepted inserts, in their order, wherever in the list these stand. (Proved as
 -- `jobs-inserted`.) So two lists inserted the same jobs where their accepted inserts are the same, one before its seal and the
--- other after it. (Proved as `same-inserts`.) And an insert might as well have come before all other calls (R182, proved as
--- `inserts-first`).
+-- other after it. (Proved as `same-inserts`.) And the inserts, in their order, might as well have come before all other calls:
+-- R182, proved as `inserts-first`.
 use Prim.Native.Nat.{ℕ, _<_}
 use mathlib.Core.Bool.{cond}
 use mathlib.Core.List.{List, [], _∷_, _++_, map}

@@ -36,10 +36,11 @@ unfolding perform inserted
 insert-leaves b job e = rw e
 
 module _ {b : Batch} {l : Ledger} (agree : Faithful b l) (job : Job) (e : insertRefusal b job ≡ 0) where
-  -- The record and the ledger agree after it too.
+  -- The record and the ledger agree after the insert too.
   pub agrees-after : Faithful (withInserted b job) (enter l (insert job) (replicate 4 (pos 0)))
   agrees-after = inserted-kept agree job (replicate 4 (pos 0)) e
 
+  -- There is a place for the job.
   place : b .«job_count» < 128
   place = insert-place b job e
 
@@ -121,7 +122,7 @@ module _ {b : Batch} {l : Ledger} (agree : Faithful b l) (job : Job) (e : insert
   unfolding askedCell cellRefusal withInserted
   old-cell x = rw (faithful-form agrees-after, faithful-form agree)
 
-  -- R181: where all others are settled, its own run may be started.
+  -- What is asked for of the batch before.
   finished-told : askedBatch b .finished ≡ isFinished b
   unfolding askedBatch
   finished-told = rw (faithful-form agree)
@@ -130,6 +131,7 @@ module _ {b : Batch} {l : Ledger} (agree : Faithful b l) (job : Job) (e : insert
   unfolding askedBatch
   count-told = rw (faithful-form agree) (agree .job-count)
 
+  -- R181: where all others are settled, its own run may be started.
   starts : isFinished b ≡ true → perform (withInserted b job) (startOwn (l .jobCount)) .refusal ≡ 0
   unfolding enter
   starts finished =

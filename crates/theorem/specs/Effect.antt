@@ -52,10 +52,10 @@ performed-refusal b (commit j) = refl
 pub refusal-in-form : (b : Batch) (call : Call) → inForm b ≡ true → perform b call .refusal ≡ refusalOf (snapshotOf b) call
 refusal-in-form b call form = performed-refusal b call ∙ rw form
 
--- A refusal changes nothing (R81),
 abbrev pub accepts : Batch → Call → Bool
 accepts b call = eqb (perform b call .refusal) 0
 
+-- A refusal changes nothing (R81),
 pub performed-batch : (b : Batch) (call : Call) → perform b call .batch ≡ cond (accepts b call) (effect b call) b
 unfolding perform inserted sealedWith startedOwn startedSpeculation reportedOwn reportedSpeculation committedBy
 performed-batch b (insert job) = refl
