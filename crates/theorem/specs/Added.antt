@@ -23,17 +23,13 @@ use Rattle.engine.specs.Perform.{perform}
 use Rattle.claims.specs.Ledger.{Ledger, Entry, noEntry, isCounted, ownIsOut, guessPhase, snapshotOfLedger, enter}
 use Rattle.claims.specs.Trace.{batchOf}
 use Rattle.claims.specs.Added.{grown, untried, Added, AddedStatement}
+use Rattle.theorem.specs.Effect.{accepted-leaves}
 use Rattle.theorem.specs.SameRefusal.{withJobs, validity-same}
 use Rattle.theorem.specs.Faithful.{Faithful, faithful-form, same-snapshot}
 use Rattle.theorem.specs.Agreement.{inserted-kept}
 use Rattle.theorem.specs.Promises.{settled-counted, own-may-start}
 use Rattle.theorem.specs.AsAsked.{asked-job}
 use Rattle.theorem.specs.Always.{sound-always}
-
--- An accepted insert leaves the record with the job.
-pub insert-leaves : (b : Batch) (job : Job) → insertRefusal b job ≡ 0 → perform b (insert job) .batch ≡ withInserted b job
-unfolding perform inserted
-insert-leaves b job e = rw e
 
 module _ {b : Batch} {l : Ledger} (agree : Faithful b l) (job : Job) (e : insertRefusal b job ≡ 0) where
   -- The record and the ledger agree after the insert too.
@@ -165,4 +161,4 @@ module _ {b : Batch} {l : Ledger} (agree : Faithful b l) (job : Job) (e : insert
 pub job-added : AddedStatement
 unfolding perform inserted
 job-added heights calls e job accepted =
-    rw (insert-leaves (batchOf heights calls) job accepted) (added (sound-always heights calls e .agree) job accepted)
+    rw (accepted-leaves (batchOf heights calls) (insert job) accepted) (added (sound-always heights calls e .agree) job accepted)

@@ -39,7 +39,7 @@ handedBy b (reportSpeculation j values wrote) = zeros
 handedBy b (commit j) = zeros
 
 -- 32 for a record out of form, and else what the rules say.
-pub performed-refusal : (b : Batch) (call : Call) → perform b call .refusal ≡ cond (inForm b) (refusalOf (snapshotOf b) call) 32
+performed-refusal : (b : Batch) (call : Call) → perform b call .refusal ≡ cond (inForm b) (refusalOf (snapshotOf b) call) 32
 unfolding perform inserted sealedWith startedOwn startedSpeculation reportedOwn reportedSpeculation committedBy refusalOf
 performed-refusal b (insert job) = refl
 performed-refusal b (seal switch) = refl
@@ -65,6 +65,9 @@ performed-batch b (startSpeculation j) = refl
 performed-batch b (reportOwn j values wrote) = refl
 performed-batch b (reportSpeculation j values wrote) = refl
 performed-batch b (commit j) = refl
+
+pub accepted-leaves : (b : Batch) (call : Call) → perform b call .refusal ≡ 0 → perform b call .batch ≡ effect b call
+accepted-leaves b call e = performed-batch b call ∙ rw e
 
 pub refused-stays : (b : Batch) (call : Call) → accepts b call ≡ false → perform b call .batch ≡ b
 refused-stays b call e = performed-batch b call ∙ rw e

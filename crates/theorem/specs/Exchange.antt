@@ -24,11 +24,12 @@ use Rattle.engine.specs.Perform.{perform}
 use Rattle.claims.specs.Ledger.{Ledger, snapshotOfLedger}
 use Rattle.claims.specs.Added.{Earlier, seal-call, own-start, speculation-start, own-report, speculation-report, commit-step}
 use Rattle.claims.specs.Added.{Exchange, ExchangeStatement}
-use Rattle.theorem.specs.Effect.{effect, accepts, handedBy, zeros, refusal-in-form, performed-batch, performed-handed, refused-stays}
+use Rattle.theorem.specs.Effect.{effect, accepts, handedBy, zeros, refusal-in-form, performed-batch, performed-handed, accepted-leaves}
+use Rattle.theorem.specs.Effect.{refused-stays}
 use Rattle.theorem.specs.SameRefusal.{HeldAlike, source-same, bypassed-same, same-refusal}
 use Rattle.theorem.specs.Faithful.{Faithful, faithful-form}
 use Rattle.theorem.specs.StepAgreement.{source-now-limit}
-use Rattle.theorem.specs.Added.{insert-leaves, agrees-after, elsewhere, same-job, same-run, same-committed, same-running}
+use Rattle.theorem.specs.Added.{agrees-after, elsewhere, same-job, same-run, same-committed, same-running}
 use Rattle.theorem.specs.Added.{same-phase, unnoticed}
 use Rattle.theorem.specs.Right.{Sound}
 use Rattle.theorem.specs.Always.{call-sound, sound-always}
@@ -175,11 +176,11 @@ module _ {b : Batch} {l : Ledger} (sound : Sound b l) (job : Job) {call : Call} 
   accepted-exchange : perform b (insert job) .refusal ≡ 0 → Exchange b (insert job) call
   unfolding perform inserted
   accepted-exchange e =
-      exchange-by (withInserted b job) (insert-leaves b job e) (refused-alike (sound .agree) job e earlier)
+      exchange-by (withInserted b job) (accepted-leaves b (insert job) e) (refused-alike (sound .agree) job e earlier)
       (handed-alike (sound .agree) job e earlier)
       (both (accepts b call)
       ∙ ap (λ (c : Batch). withInserted c job) (sym (performed-batch b call))
-      ∙ sym (insert-leaves (perform b call .batch) job (insert-after ∙ e)))
+      ∙ sym (accepted-leaves (perform b call .batch) (insert job) (insert-after ∙ e)))
     where
       both : (t : Bool) → cond t (effect (withInserted b job) call) (withInserted b job) ≡ withInserted (cond t (effect b call) b) job
       both true = left-alike (sound .agree) job e earlier

@@ -1,5 +1,5 @@
 //! Jobs that come in while the batch runs (R6): lists of calls that insert anywhere (`second_hand::lists`), worked in three hands
-//! at once and held against the ledger (`second_hand::ledger`), with R179 and R181 of each job that comes in; pairs of lists that
+//! at once and held against the ledger (`second_hand::ledger`), with R179 and R181 of jobs that come in; pairs of lists that
 //! insert the same jobs at different moments (R176); and inserts exchanged with other calls (R180). BATCHES=COUNT and PAIRS=COUNT
 //! set how many, SEED=NUMBER which; it prints what was met (`cargo test --test inserts -- --nocapture`).
 

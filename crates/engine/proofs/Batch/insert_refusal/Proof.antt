@@ -1,4 +1,5 @@
 -- `Batch::insert_refusal` meets its contract.
+use native.Mathlib.Omega.{arith}
 use Rattle.laws.specs.RefusalLaws.{first, hit, skip, first-of}
 use borrow.Author.Tests.{le-leb, lt-leb}
 use Rattle.admission.specs.Admission.{jobRefusal}
@@ -11,7 +12,10 @@ is-in-form-requires c κs = search needs
 
 -- 128 jobs
 returns : tie.Need-returns
-returns c = rw (← c .before .before .before .is-in-form .ensures, c .before .before .if1 .taken) (first (hit (le-leb _ _ (c .if2 .taken))))
+returns c =
+    let k = c .before .before in
+    rw (← k .before .is-in-form .ensures, k .if1 .taken)
+    (first (hit (le-leb 128 (k .before .before .args .self .«job_count») (omega (arith, c .if2 .taken)))))
 
 job-refusal-requires : tie.Need-job-refusal-requires
 job-refusal-requires c κs = search needs
@@ -22,7 +26,8 @@ unfolding jobRefusal
 returns-2 c =
     let k = c .before .before .before in
     rw (c .job-refusal .ensures, ← k .before .is-in-form .ensures, k .if1 .taken)
-    (first (skip (lt-leb _ _ (c .before .if2 .left)) (first-of _)))
+    (first
+    (skip (lt-leb 128 (k .before .before .args .self .«job_count») (omega (arith, c .before .if2 .left))) (first-of _)))
 
 -- out of form
 returns-3 : tie.Need-returns-3
