@@ -76,12 +76,21 @@ pub fn floors_and_pairs() {
 }
 
 pub fn means() {
-    lines::heading(b"mean: rounded towards minus infinity");
+    lines::heading(b"mean: a half away from zero");
     mean(b"3, 4", 3, 4);
     mean(b"-3, -4", -3, -4);
+    mean(b"-1, 0", -1, 0);
     mean(b"0, -1", 0, -1);
+    mean(b"0, 1", 0, 1);
+    mean(b"-2, 1", -2, 1);
+    mean(b"-1, 2", -1, 2);
+    mean(b"-5, 5", -5, 5);
+    mean(b"-4, -2", -4, -2);
     mean(b"2147483647, -2147483648", HIGHEST, LOWEST);
+    mean(b"2147483647, 0", HIGHEST, 0);
+    mean(b"2147483647, 2147483646", HIGHEST, 2147483646);
     mean(b"2147483647, 2147483647", HIGHEST, HIGHEST);
+    mean(b"-2147483647, -2147483648", -2147483647, LOWEST);
     mean(b"-2147483648, -2147483648", LOWEST, LOWEST);
 }
 
@@ -117,6 +126,7 @@ pub fn results() {
     result(b"floor 1400 of 1400", kinds::FLOOR, 1400, [1400, 0, 0, 0]);
     result(b"mean of 3 and 4", kinds::MEAN, 0, [9, 3, 4, 0]);
     result(b"mean of -3 and -4", kinds::MEAN, 0, [9, -3, -4, 0]);
+    result(b"mean of -1 and 0", kinds::MEAN, 0, [9, -1, 0, 0]);
     result(b"pair 1720, 1480", kinds::PAIR, 0, [1720, 1480, 0, 0]);
     result(b"pair 1480, 1480", kinds::PAIR, 0, [1480, 1480, 0, 0]);
 }

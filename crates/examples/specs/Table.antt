@@ -213,9 +213,10 @@ table =
     ∷ gives spike (pos 2147483647) (two (pos 2147483647) (minus 2147483648)) (two (minus 2147483648) (minus 2147483648)) 1
     -- P4 shift 2147483640 by 20: 2147483647.
     ∷ gives shift (pos 20) (one (pos 2147483640)) (one (pos 2147483647)) 0
-    -- P5 mean of 3, 4: 3; of -3, -4: -4.
-    ∷ gives mean (pos 0) (three (pos 0) (pos 3) (pos 4)) (three (pos 3) (pos 3) (pos 4)) 0
+    -- P5 mean of 3, 4: 4; of -3, -4: -4; of -1, 0: -1.
+    ∷ gives mean (pos 0) (three (pos 0) (pos 3) (pos 4)) (three (pos 4) (pos 3) (pos 4)) 0
     ∷ gives mean (pos 0) (three (pos 0) (minus 3) (minus 4)) (three (minus 4) (minus 3) (minus 4)) 0
+    ∷ gives mean (pos 0) (three (pos 0) (minus 1) (pos 0)) (three (minus 1) (minus 1) (pos 0)) 0
     -- P6 pair 1720, 1480: 1480, 1720; equal: mark 0.
     ∷ gives pair (pos 0) (two (pos 1720) (pos 1480)) (two (pos 1480) (pos 1720)) 1
     ∷ gives pair (pos 0) (two (pos 1480) (pos 1480)) (two (pos 1480) (pos 1480)) 0
@@ -326,7 +327,7 @@ examples-hold =
     also refl also refl  -- P2
     also refl  -- P3
     also refl  -- P4
-    also refl also refl  -- P5
+    also refl also refl also refl  -- P5
     also refl also refl  -- P6
     also refl also refl  -- P7
     also refl also refl also refl also refl also refl  -- P8

@@ -64,12 +64,13 @@ pub fn is_below(height: i32, floor: i32) -> bool
     height < floor
 }
 
-/// Half the sum, rounded towards minus infinity: the shift of a signed number rounds so, a division would not.
+/// Half the sum, a half away from zero: one step away first, since a division goes towards zero. The sum needs 64 bits.
 pub fn mean(left: i32, right: i32) -> i32
     ensures { λ r. ⌜ r ≡ meanOf left right ⌝ }
 {
     let sum = (left as i64) + (right as i64);
-    (sum >> 1) as i32
+    let away = if sum < 0 { -1 } else { 1 };
+    ((sum + away) / 2) as i32
 }
 
 /// Whether the first height of a pair is above the second, so that they are to be exchanged.

@@ -55,7 +55,14 @@ impl Job {
         Job::new(Kind::Floor.number(), height, &[(cell, Mode::MaybeWrite)])
     }
 
-    /// The cell becomes the mean of the two others, rounded towards minus infinity.
+    /// The cell becomes the mean of the two others. A half goes away from zero (R16).
+    ///
+    /// ```
+    /// # use sorghemi::{Job, Report};
+    /// let mean = Job::mean(0, 1, 2);
+    /// assert_eq!(mean.result([0, 3, 4, 0]), Ok(Report::of(&[4, 3, 4])));
+    /// assert_eq!(mean.result([0, -3, -4, 0]), Ok(Report::of(&[-4, -3, -4])));
+    /// ```
     pub fn mean(cell: u8, one: u8, other: u8) -> Job {
         Job::new(Kind::Mean.number(), 0, &[(cell, Mode::Write), (one, Mode::Read), (other, Mode::Read)])
     }

@@ -26,7 +26,7 @@ fn the_end_is_the_same_whatever_the_threads_do() {
         let pace = Duration::from_micros([0, 20, 100, 400][turn % 4]);
         let end = run(1 + turn % 9, pace);
         // Worked out from R12 to R17, one job after the other; host/c/threads.stdout has the same.
-        assert_eq!(end.heights, [1505, 1510, 1520, 1492, 1400, 1499], "turn {turn}");
+        assert_eq!(end.heights, [1505, 1510, 1520, 1493, 1400, 1500], "turn {turn}");
         let more = [end.kept, end.thrown_away, end.given_up, end.late, end.met_finished, end.met_run_out];
         seen.iter_mut().zip(more).for_each(|(sum, more)| *sum += more);
     }

@@ -1,6 +1,6 @@
 use lib.IntN.{_+ℤ_}
 use mir.Facts.{toZ-ofZ}
-use Rattle.laws.specs.Signed.{sum-fits, widens, widened, between}
+use Rattle.laws.specs.Signed.{sum-fits, widens, widened, summed, between}
 use borrow.Author.Needs.{needs}
 use Rattle.kinds.proofs.shift.Statement.{statement}
 use Rattle.kinds.proofs.shift.Tie as tie
@@ -24,7 +24,7 @@ cast-if1 c = search needs
 returns : tie.Need-returns
 returns c =
     let f = c .before .fits in
-    simp (simp (widened (f .height), widened (f .parameter), toZ-ofZ (sum-fits (f .height) (f .parameter))) at (c .if1 .taken))
+    simp (simp (summed (f .height) (f .parameter)) at (c .if1 .taken))
 
 cast-if2 : tie.Need-cast-if2
 cast-if2 c = search needs
@@ -34,27 +34,27 @@ returns-2 : tie.Need-returns-2
 returns-2 c =
     let f = c .before .before .fits in
     simp (
-      simp (widened (f .height), widened (f .parameter), toZ-ofZ (sum-fits (f .height) (f .parameter))) at (c .before .if1 .left),
-      simp (widened (f .height), widened (f .parameter), toZ-ofZ (sum-fits (f .height) (f .parameter))) at (c .if2 .taken),
+      simp (summed (f .height) (f .parameter)) at (c .before .if1 .left),
+      simp (summed (f .height) (f .parameter)) at (c .if2 .taken),
     )
 
 -- between the ends the sum fits 32 bits
 cast-result : tie.Need-cast-result
 cast-result c =
     let f = c .before .before .fits in
-    simp (widened (f .height), widened (f .parameter), toZ-ofZ (sum-fits (f .height) (f .parameter)))
+    simp (summed (f .height) (f .parameter))
     (between _
-    (simp (widened (f .height), widened (f .parameter), toZ-ofZ (sum-fits (f .height) (f .parameter))) at (c .before .if1 .left))
-    (simp (widened (f .height), widened (f .parameter), toZ-ofZ (sum-fits (f .height) (f .parameter))) at (c .if2 .left)))
+    (simp (summed (f .height) (f .parameter)) at (c .before .if1 .left))
+    (simp (summed (f .height) (f .parameter)) at (c .if2 .left)))
 
 -- between the ends the answer is the sum
 returns-3 : tie.Need-returns-3
 returns-3 c =
     let f = c .before .before .fits in
     let a = c .before .before .args in
-    let h = simp (widened (f .height), widened (f .parameter), toZ-ofZ (sum-fits (f .height) (f .parameter))) at (c .before .if1 .left) in
-    let k = simp (widened (f .height), widened (f .parameter), toZ-ofZ (sum-fits (f .height) (f .parameter))) at (c .if2 .left) in
-    simp (widened (f .height), widened (f .parameter), toZ-ofZ (sum-fits (f .height) (f .parameter)), toZ-ofZ (between (a .height +ℤ a .parameter) h k), h, k)
+    let h = simp (summed (f .height) (f .parameter)) at (c .before .if1 .left) in
+    let k = simp (summed (f .height) (f .parameter)) at (c .if2 .left) in
+    simp (summed (f .height) (f .parameter), toZ-ofZ (between (a .height +ℤ a .parameter) h k), h, k)
 
 pub shift-spec : {M : Type 1} → statement M
 shift-spec =
