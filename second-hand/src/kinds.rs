@@ -51,8 +51,13 @@ pub fn result(kind: u32, p: i32, handed: [i32; 4]) -> Result<Report, u32> {
                 mark = 1;
             }
         }
-        // R16, mean: the next lower whole number, below 0 too
-        5 => values[0] = (b + c).div_euclid(2) as i32,
+        // R16, mean: a half goes away from zero. Division drops the half, and what
+        // it leaves over, -1, 0 or 1, has the sum's sign. The mean of two heights
+        // is never past an end of the range, and so fits.
+        5 => {
+            let sum = b + c;
+            values[0] = (sum / 2 + sum % 2) as i32;
+        }
         // R17, pair
         6 => {
             if a > b {

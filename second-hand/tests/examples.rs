@@ -26,6 +26,15 @@ fn first_two(kind: u32, p: i32, a: i32, b: i32) -> (i32, i32, u32) {
     (report.values[0], report.values[1], report.mark)
 }
 
+/// R16, in either order. All else comes back as it was handed, with mark 0.
+fn mean(b: i32, c: i32) -> i32 {
+    let got = kinds::result(5, 0, [7, b, c, 9]).unwrap();
+    assert_eq!(got, report([got.values[0], b, c, 9], 0));
+    let turned = kinds::result(5, 0, [7, c, b, 9]).unwrap();
+    assert_eq!(turned, report([got.values[0], c, b, 9], 0));
+    got.values[0]
+}
+
 #[test]
 fn p1_floor() {
     assert_eq!(first_two(4, 1400, 1399, 0), (1400, 0, 1));
@@ -53,12 +62,76 @@ fn p4_shift() {
 
 #[test]
 fn p5_mean() {
-    let mean = |b, c| kinds::result(5, 0, [7, b, c, 0]).unwrap();
-    assert_eq!(mean(3, 4), report([3, 3, 4, 0], 0));
-    assert_eq!(mean(-3, -4), report([-4, -3, -4, 0], 0));
-    assert_eq!(mean(i32::MAX, i32::MAX).values[0], i32::MAX);
-    assert_eq!(mean(i32::MIN, i32::MIN).values[0], i32::MIN);
-    assert_eq!(mean(i32::MIN, i32::MAX).values[0], -1);
+    assert_eq!(mean(3, 4), 4);
+    assert_eq!(mean(-3, -4), -4);
+    assert_eq!(mean(-1, 0), -1);
+}
+
+#[test]
+fn means_of_small_heights() {
+    assert_eq!(mean(0, 0), 0);
+    assert_eq!(mean(1, 0), 1);
+    assert_eq!(mean(2, 3), 3);
+    assert_eq!(mean(-2, -3), -3);
+    assert_eq!(mean(4, 6), 5);
+    assert_eq!(mean(-4, -6), -5);
+    // One height on each side of zero: it is the sum's side that counts.
+    assert_eq!(mean(-1, 1), 0);
+    assert_eq!(mean(-1, 2), 1);
+    assert_eq!(mean(1, -2), -1);
+    assert_eq!(mean(-1, 4), 2);
+    assert_eq!(mean(1, -4), -2);
+}
+
+#[test]
+fn means_at_the_ends_of_the_range() {
+    // The four largest sums and the four least, halves 2147483646.5, 2147483645.5,
+    // -2147483647.5 and -2147483646.5 among them.
+    assert_eq!(mean(2147483647, 2147483647), 2147483647);
+    assert_eq!(mean(2147483647, 2147483646), 2147483647);
+    assert_eq!(mean(2147483647, 2147483645), 2147483646);
+    assert_eq!(mean(2147483646, 2147483645), 2147483646);
+    assert_eq!(mean(-2147483648, -2147483648), -2147483648);
+    assert_eq!(mean(-2147483648, -2147483647), -2147483648);
+    assert_eq!(mean(-2147483648, -2147483646), -2147483647);
+    assert_eq!(mean(-2147483647, -2147483646), -2147483647);
+    // One height at each end: sums of -1, 0 and 1.
+    assert_eq!(mean(-2147483648, 2147483647), -1);
+    assert_eq!(mean(-2147483647, 2147483647), 0);
+    assert_eq!(mean(-2147483646, 2147483647), 1);
+    // The last odd sum within 32 bits on either side, and the first past them.
+    assert_eq!(mean(2147483647, 0), 1073741824);
+    assert_eq!(mean(2147483647, 2), 1073741825);
+    assert_eq!(mean(-2147483648, 1), -1073741824);
+    assert_eq!(mean(-2147483648, -1), -1073741825);
+}
+
+/// R16, in whole numbers: none is nearer to half of the sum, and one as near is
+/// nearer to zero. The two next to the mean decide: all others are farther away.
+#[test]
+fn a_mean_is_nearest_and_away_from_zero() {
+    let (least, most) = (i64::from(i32::MIN), i64::from(i32::MAX));
+    // About zero, the ends, and where two alike have a sum that just fits 32 bits.
+    let heights: Vec<i64> = [0, least, most, least / 2, most / 2]
+        .into_iter()
+        .flat_map(|near| near - 9..=near + 9)
+        .filter(|height| (least..=most).contains(height))
+        .collect();
+    let mut halves = [0, 0];
+    for &b in &heights {
+        for &c in &heights {
+            let got = i64::from(mean(b as i32, c as i32));
+            // Twice how far a whole number is from half of the sum.
+            let far = |whole: i64| (2 * whole - b - c).abs();
+            for next in [got - 1, got + 1] {
+                let as_far = far(next) == far(got);
+                assert!(far(next) >= far(got), "{b} and {c}: {got}");
+                assert!(!as_far || next.abs() < got.abs(), "{b} and {c}: {got}");
+                halves[usize::from(got < 0)] += u32::from(as_far);
+            }
+        }
+    }
+    assert!(halves.iter().all(|&times| times > 1000), "{halves:?}");
 }
 
 #[test]
