@@ -4,7 +4,7 @@
 use std::collections::{BTreeMap, BTreeSet};
 use std::io::BufReader;
 
-use second_hand::engine::{Batch, GuessState, Settled, WRITE};
+use second_hand::engine::{Batch, GuessState, Settled, REPORT_OWN, SETTLE, WRITE};
 use second_hand::{frame, plan};
 
 fn main() -> std::io::Result<()> {
@@ -36,6 +36,7 @@ fn main() -> std::io::Result<()> {
                 let mut names = BTreeSet::new();
                 for step in plan.steps {
                     let before = cells_and_mark(&batch, step.job);
+                    let halved = sum_to_halve(&batch, step);
                     let answer = plan::try_step(&mut batch, step);
                     let after = cells_and_mark(&batch, step.job);
                     if before.1 == 0 && after.1 == 1 && before.0 == after.0 {
@@ -50,6 +51,9 @@ fn main() -> std::io::Result<()> {
                     let there = step.job % PAST_A_BYTE < batch.job_count();
                     if step.job >= PAST_A_BYTE && there {
                         names.insert(NAMES[13]);
+                    }
+                    if let Some(sum) = halved.filter(|_| answer == 0) {
+                        names.extend(means_seen(sum));
                     }
                     steps += 1;
                     accepted += u64::from(answer == 0);
@@ -130,7 +134,7 @@ fn sound_if_cut(bytes: &[u8], fault: plan::Fault) -> bool {
     }
 }
 
-const NAMES: [&str; 14] = [
+const NAMES: [&str; 19] = [
     "every job settled",
     "guess kept",
     "guess kept with mark 1",
@@ -145,7 +149,35 @@ const NAMES: [&str; 14] = [
     "start guess refused at a writer whose stored guess had fallen",
     "report of a guess that had already fallen",
     "step on a job number of 256 or more that would be a job's if it were cut to a byte",
+    "mean settled",
+    "mean settled with a half above zero",
+    "mean settled with a half below zero",
+    "mean settled with a sum of 1",
+    "mean settled with a sum of -1",
 ];
+
+/// R16: the sum that is halved, where the step, if it is accepted, settles a mean.
+fn sum_to_halve(batch: &Batch, step: plan::Step) -> Option<i64> {
+    let handed = match step.step {
+        REPORT_OWN => batch.own_handed(step.job)?,
+        SETTLE => batch.guess_handed(step.job)?,
+        _ => return None,
+    };
+    let is_mean = batch.job(step.job)?.kind == 5;
+    is_mean.then(|| i64::from(handed[1]) + i64::from(handed[2]))
+}
+
+fn means_seen(sum: i64) -> impl Iterator<Item = &'static str> {
+    let odd = sum % 2 != 0;
+    let happened = [
+        (true, NAMES[14]),
+        (odd && sum > 0, NAMES[15]),
+        (odd && sum < 0, NAMES[16]),
+        (sum == 1, NAMES[17]),
+        (sum == -1, NAMES[18]),
+    ];
+    happened.into_iter().filter(|&(did, _)| did).map(|(_, name)| name)
+}
 
 /// Whether a writer that this job's guess would meet has a stored report of a
 /// guess that has fallen.
