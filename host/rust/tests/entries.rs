@@ -27,7 +27,7 @@ fn number(dice: &mut Dice, given: i64) -> i32 {
 }
 
 /// Where a kind's result turns. Each has to come up.
-const TURNS: [&str; 12] = [
+const TURNS: [&str; 17] = [
     "a shift held at the upper end",
     "a shift held at the lower end",
     "a shift to an end, not past it",
@@ -36,7 +36,12 @@ const TURNS: [&str; 12] = [
     "a spike further than 32 bits say",
     "a floor at p",
     "a floor one below p",
+    "a mean of an odd sum above 0",
     "a mean of an odd sum below 0",
+    "a mean of a sum of 1",
+    "a mean of a sum of -1",
+    "a mean of the largest odd sum",
+    "a mean of the least odd sum",
     "a mean of a sum above the range",
     "a mean of a sum below the range",
     "a pair of equal heights",
@@ -51,8 +56,20 @@ fn turns(kind: u8, p: i32, values: [i32; 4]) -> Vec<usize> {
         2 => vec![(moved > MOST, 0), (moved < LEAST, 1), (moved == MOST || moved == LEAST, 2)],
         3 => vec![(distance == p, 3), (distance == p + 1, 4), (distance > MOST, 5)],
         4 => vec![(a == p, 6), (a == p - 1, 7)],
-        5 => vec![(sum < 0 && sum % 2 != 0, 8), (sum > MOST, 9), (sum < LEAST, 10)],
-        6 => vec![(a == b, 11)],
+        5 => {
+            let odd = sum % 2 != 0;
+            vec![
+                (odd && sum > 0, 8),
+                (odd && sum < 0, 9),
+                (sum == 1, 10),
+                (sum == -1, 11),
+                (sum == 2 * MOST - 1, 12),
+                (sum == 2 * LEAST + 1, 13),
+                (sum > MOST, 14),
+                (sum < LEAST, 15),
+            ]
+        }
+        6 => vec![(a == b, 16)],
         _ => vec![],
     };
     met.into_iter().filter(|&(did, _)| did).map(|(_, turn)| turn).collect()
