@@ -23,7 +23,7 @@ pub record IsHalf (z m : ℤ) : Type 0 where
   pub nearest : (n : ℤ) → twiceOff z m ≤ twiceOff z n
   pub away : (n : ℤ) → twiceOff z n ≡ twiceOff z m → natAbs n ≤ natAbs m
 
--- Above zero: rounding up adds one to an odd sum, and nothing to an even one.
+-- Above zero, by the size of a difference of two sizes.
 abs-cond : (t : Bool) (a b : ℕ) → ltb a b ≡ t → natAbs (cond t (negsuc (b - suc a)) (pos (a - b))) ≡ (a - b) + (b - a)
 abs-cond true a b h = omega (arith, ltb-true a b h)
 abs-cond false a b h = omega (arith, ltb-false a b h)
@@ -32,8 +32,11 @@ abs-diff : (a b : ℕ) → natAbs (pos a -ℤ pos b) ≡ (a - b) + (b - a)
 abs-diff a zero = omega arith
 abs-diff a (suc b) = abs-cond (ltb a (suc b)) a (suc b) refl
 
-off-half : (s : ℕ) → twiceOff (pos s) (pos (halfUp s)) ≡ (halfUp s + halfUp s) - s
-off-half s = abs-diff s (halfUp s + halfUp s) ∙ omega arith
+off-half :
+    (s : ℕ)
+    → let twice = natAbs (halved (pos s)) + natAbs (halved (pos s)) in
+    twiceOff (pos s) (halved (pos s)) ≡ (s - twice) + (twice - s)
+off-half s = abs-diff s (natAbs (halved (pos s)) + natAbs (halved (pos s)))
 
 nearest-above : (s : ℕ) (n : ℤ) → twiceOff (pos s) (halved (pos s)) ≤ twiceOff (pos s) n
 nearest-above s (pos k) = omega (arith, off-half s, abs-diff s (k + k))
