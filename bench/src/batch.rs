@@ -171,8 +171,9 @@ mod tests {
         let far = [i32::MAX, i32::MIN, 0, 0];
         assert_eq!(result(3, i32::MAX, far), ([i32::MIN, i32::MIN, 0, 0], 1));
         assert_eq!(result(2, 20, [2147483640, 0, 0, 0]).0[0], i32::MAX);
-        assert_eq!(result(5, 0, [0, 3, 4, 0]).0[0], 3);
+        assert_eq!(result(5, 0, [0, 3, 4, 0]).0[0], 4);
         assert_eq!(result(5, 0, [0, -3, -4, 0]).0[0], -4);
+        assert_eq!(result(5, 0, [0, -1, 0, 0]).0[0], -1);
         assert_eq!(result(6, 0, [1720, 1480, 0, 0]), ([1480, 1720, 0, 0], 1));
         assert_eq!(result(6, 0, [7, 7, 0, 0]).1, 0);
     }
