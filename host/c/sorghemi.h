@@ -222,6 +222,22 @@ typedef struct {
     sorghemi_job job;
 } sorghemi_job_answer;
 
+/* What is told of a set of jobs (R78): how many there are, and the lowest number among them. `present` says whether there is
+ * a lowest; where the set is empty there is none, and 0 stands there. */
+typedef struct {
+    uint8_t size;
+    bool present;
+    uint8_t lowest;
+} sorghemi_set_answer;
+
+/* What a job's guess looked past (R79): all these jobs, and the open ones among them, which are not settled: for these the
+ * guess still waits. Of a job whose guess is neither out nor stored both sets are empty. Zeros where it is refused. */
+typedef struct {
+    uint8_t refusal;
+    sorghemi_set_answer bypassed;
+    sorghemi_set_answer open;
+} sorghemi_speculation_answer;
+
 /* How the batch stands: finished while it is sealed and every job settled, so a job that is inserted makes it unfinished
  * again. Zeros where it is refused. */
 typedef struct {
@@ -273,7 +289,7 @@ extern "C" {
 #endif
 
 /* The library. Refusals: open 1; insert 3 to 8; seal 2, 9; a step 10 to 18, and 21 for a number above 4; choose 10, 19;
- * ask_cell 5; ask_job 11; copy_out 20; total 23; and of the calls that take a record, before all others, 32 where it is out
+ * ask_cell 5; ask_job and ask_speculation 11; copy_out 20; total 23; and of the calls that take a record, before all others, 32 where it is out
  * of form. */
 sorghemi_answer sorghemi_open(const int32_t *heights, size_t count);
 sorghemi_answer sorghemi_insert(sorghemi_batch batch, sorghemi_job job);
@@ -284,6 +300,8 @@ sorghemi_started sorghemi_step_by_value(sorghemi_batch batch, uint8_t number, si
 sorghemi_choice sorghemi_choose(sorghemi_batch batch);
 sorghemi_cell_answer sorghemi_ask_cell(sorghemi_batch batch, size_t cell);
 sorghemi_job_answer sorghemi_ask_job(sorghemi_batch batch, size_t job);
+/* What the job's guess looked past, and what of it is not settled yet. */
+sorghemi_speculation_answer sorghemi_ask_speculation(sorghemi_batch batch, size_t job);
 sorghemi_batch_answer sorghemi_ask_batch(sorghemi_batch batch);
 /* Copies the cells to the buffer's places from `at` on; all other places keep their values. */
 uint8_t sorghemi_copy_out(sorghemi_batch batch, int32_t *buffer, size_t size, size_t at);
@@ -308,7 +326,7 @@ uint32_t sorghemi_layout(size_t place);
 /* The same list as this header has it: a version, then of each struct its size and the offsets of its fields. */
 #define SORGHEMI_AT(type, field) ((uint32_t)offsetof(type, field))
 static const uint32_t sorghemi_header_layout[] = {
-    3,
+    4,
     sizeof(sorghemi_batch), SORGHEMI_AT(sorghemi_batch, cell_count), SORGHEMI_AT(sorghemi_batch, job_count),
     SORGHEMI_AT(sorghemi_batch, sealed), SORGHEMI_AT(sorghemi_batch, speculating), SORGHEMI_AT(sorghemi_batch, cells),
     SORGHEMI_AT(sorghemi_batch, jobs), SORGHEMI_AT(sorghemi_batch, runs), SORGHEMI_AT(sorghemi_batch, committed),
@@ -344,6 +362,10 @@ static const uint32_t sorghemi_header_layout[] = {
     sizeof(sorghemi_tally_answer), SORGHEMI_AT(sorghemi_tally_answer, refusal), SORGHEMI_AT(sorghemi_tally_answer, tally),
     sizeof(sorghemi_share_answer), SORGHEMI_AT(sorghemi_share_answer, present),
     SORGHEMI_AT(sorghemi_share_answer, thousandths),
+    sizeof(sorghemi_set_answer), SORGHEMI_AT(sorghemi_set_answer, size), SORGHEMI_AT(sorghemi_set_answer, present),
+    SORGHEMI_AT(sorghemi_set_answer, lowest),
+    sizeof(sorghemi_speculation_answer), SORGHEMI_AT(sorghemi_speculation_answer, refusal),
+    SORGHEMI_AT(sorghemi_speculation_answer, bypassed), SORGHEMI_AT(sorghemi_speculation_answer, open),
 };
 #undef SORGHEMI_AT
 
@@ -408,6 +430,12 @@ static inline sorghemi_cell_answer sorghemi_batch_ask_cell(const sorghemi_batch 
 static inline sorghemi_job_answer sorghemi_batch_ask_job(const sorghemi_batch *batch, size_t job)
 {
     return sorghemi_ask_job(*batch, job);
+}
+
+/* Asks the record what a job's guess looked past, and for which of these jobs it still waits. */
+static inline sorghemi_speculation_answer sorghemi_batch_ask_speculation(const sorghemi_batch *batch, size_t job)
+{
+    return sorghemi_ask_speculation(*batch, job);
 }
 
 /* Asks how the record stands. */

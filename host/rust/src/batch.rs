@@ -39,6 +39,24 @@ pub struct JobState {
     pub job: Job,
 }
 
+/// What is told of a set of jobs (R78).
+#[derive(Clone, Copy, Debug, PartialEq, Eq)]
+pub struct Jobs {
+    /// How many there are.
+    pub size: usize,
+    /// The lowest number among them; none exactly where there are no jobs.
+    pub lowest: Option<usize>,
+}
+
+/// What a job's guess looked past (R79). Both sets are empty where the job has no guess that is out or stored.
+#[derive(Clone, Copy, Debug, PartialEq, Eq)]
+pub struct Speculation {
+    /// The jobs that it looked past, settled since or not.
+    pub bypassed: Jobs,
+    /// Those of them that are not settled: for these the guess still waits.
+    pub open: Jobs,
+}
+
 /// How a batch stands.
 #[derive(Clone, Copy, Debug, PartialEq, Eq)]
 pub struct Progress {
@@ -274,6 +292,47 @@ impl Batch {
             reported: answer.reported,
             job: answer.job,
         })
+    }
+
+    /// What a job's guess looked past, and for which of these jobs it still waits.
+    ///
+    /// A shift behind two floors of its cell:
+    ///
+    /// ```
+    /// use sorghemi::{Batch, Job, Jobs, Report};
+    ///
+    /// # fn main() -> Result<(), sorghemi::Refusal> {
+    /// let mut batch = Batch::open(&[1500])?;
+    /// for job in [Job::floor(0, 1400), Job::floor(0, 1450), Job::shift(0, 20)] {
+    ///     batch.insert(job)?;
+    /// }
+    /// batch.seal(true)?;
+    /// batch.start_speculation(2)?;
+    /// let guess = batch.speculation(2)?;
+    /// assert_eq!(guess.bypassed, Jobs { size: 2, lowest: Some(0) });
+    /// assert_eq!(guess.open, guess.bypassed);
+    ///
+    /// // The first floor changed nothing: the guess waits for the second alone.
+    /// batch.start_own(0)?;
+    /// batch.report_own(0, Report::of(&[1500]))?;
+    /// let guess = batch.speculation(2)?;
+    /// assert_eq!(guess.bypassed, Jobs { size: 2, lowest: Some(0) });
+    /// assert_eq!(guess.open, Jobs { size: 1, lowest: Some(1) });
+    ///
+    /// // The second floor has no guess.
+    /// assert_eq!(batch.speculation(1)?.bypassed, Jobs { size: 0, lowest: None });
+    /// # Ok(())
+    /// # }
+    /// ```
+    ///
+    /// # Errors
+    ///
+    /// [`NO_SUCH_JOB`](Refusal::NO_SUCH_JOB).
+    pub fn speculation(&self, job: usize) -> Result<Speculation, Refusal> {
+        let answer = unsafe { raw::sorghemi_ask_speculation(self.record, job) };
+        Refusal::check(answer.refusal)?;
+        let told = |set: raw::SetAnswer| Jobs { size: set.size as usize, lowest: set.present.then_some(set.lowest as usize) };
+        Ok(Speculation { bypassed: told(answer.bypassed), open: told(answer.open) })
     }
 
     /// How the batch stands.

@@ -16,7 +16,7 @@ macro_rules! places {
 
 /// The list as this crate has it: a version, then of each struct its size and the offsets of its fields, in bytes.
 pub fn wrapper_layout() -> Vec<u32> {
-    let mut list = vec![3];
+    let mut list = vec![4];
     places! { list:
         Record { cell_count, job_count, sealed, speculating, cells, jobs, runs, committed, running, phase }
         Run { handed, reported, wrote, sources, bypassed }
@@ -36,6 +36,8 @@ pub fn wrapper_layout() -> Vec<u32> {
         Tally { jobs, started, kept, discarded, pending }
         TallyAnswer { refusal, tally }
         ShareAnswer { present, thousandths }
+        SetAnswer { size, present, lowest }
+        SpeculationAnswer { refusal, bypassed, open }
     }
     list
 }

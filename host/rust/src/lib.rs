@@ -60,7 +60,7 @@ mod refusal;
 mod show;
 mod tally;
 
-pub use batch::{Batch, Choice, JobState, Progress};
+pub use batch::{Batch, Choice, JobState, Jobs, Progress, Speculation};
 pub use job::{Job, Report};
 pub use layout::{library_layout, wrapper_layout};
 pub use numbers::{Committed, Kind, Mode, Phase, Step, Validity};

@@ -130,6 +130,26 @@ pub struct JobAnswer {
     pub job: Job,
 }
 
+/// What is told of a set of jobs: its size, and the lowest of them where one is present.
+#[repr(C)]
+#[derive(Clone, Copy, Debug, PartialEq, Eq)]
+#[allow(missing_docs)]
+pub struct SetAnswer {
+    pub size: u8,
+    pub present: bool,
+    pub lowest: u8,
+}
+
+/// What a job's guess looked past, and the open ones among these jobs; zeros where it is refused.
+#[repr(C)]
+#[derive(Clone, Copy, Debug, PartialEq, Eq)]
+#[allow(missing_docs)]
+pub struct SpeculationAnswer {
+    pub refusal: u8,
+    pub bypassed: SetAnswer,
+    pub open: SetAnswer,
+}
+
 /// How the batch stands; zeros where it is refused.
 #[repr(C)]
 #[derive(Clone, Copy, Debug, PartialEq, Eq)]
@@ -192,6 +212,7 @@ extern "C" {
     pub fn sorghemi_choose(batch: Record) -> Choice;
     pub fn sorghemi_ask_cell(batch: Record, cell: usize) -> CellAnswer;
     pub fn sorghemi_ask_job(batch: Record, job: usize) -> JobAnswer;
+    pub fn sorghemi_ask_speculation(batch: Record, job: usize) -> SpeculationAnswer;
     pub fn sorghemi_ask_batch(batch: Record) -> BatchAnswer;
     pub fn sorghemi_copy_out(batch: Record, buffer: *mut i32, size: usize, at: usize) -> u8;
     pub fn sorghemi_result(kind: u8, parameter: i32, handed: *const [i32; 4]) -> Outcome;
