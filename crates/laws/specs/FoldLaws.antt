@@ -2,7 +2,7 @@
 use Prim.Native.Nat.{ℕ, zero, suc, _+_, _-_, _<_, _≤_, max, min}
 use native.Mathlib.Omega.{arith}
 use native.Mathlib.Numerals.{add-one}
-use native.Mathlib.Nat.{sub-zero, suc-sub-suc, eq-or-lt-of-le}
+use native.Mathlib.Nat.{add-zero, add-suc, sub-zero, suc-sub-suc, eq-or-lt-of-le}
 use mathlib.Core.Logic.{⊎-elim, _≢_}
 use mathlib.Core.Bool.{Bool, true, false, cond, _&&_, _||_}
 use mathlib.Core.List.{List, [], _∷_, _++_, append-assoc}
@@ -75,6 +75,30 @@ pub count-limit : (n : ℕ) (p : ℕ → Bool) → countBelow n p ≤ n
 unfolding countBelow
 count-limit zero p = omega arith
 count-limit (suc n) p = omega (arith, flag-limit (p n), count-limit n p)
+
+pub count-same : (n : ℕ) (p q : ℕ → Bool) → ((i : ℕ) → i < n → p i ≡ q i) → countBelow n p ≡ countBelow n q
+unfolding countBelow
+count-same zero p q h = refl
+count-same (suc n) p q h = rw (h n (omega arith), count-same n p q (λ i l. h i (omega arith)))
+
+-- None counts exactly where each number fails.
+pub count-none : (n : ℕ) (p : ℕ → Bool) → ((i : ℕ) → i < n → p i ≡ false) → countBelow n p ≡ 0
+unfolding countBelow
+count-none zero p h = refl
+count-none (suc n) p h = rw (h n (omega arith), count-none n p (λ i l. h i (omega arith)))
+
+pub count-some : (n i : ℕ) (p : ℕ → Bool) → i < n → p i ≡ true → 0 < countBelow n p
+unfolding countBelow
+count-some zero i p h t = absurd (omega arith)
+count-some (suc n) i p h t =
+    let le : i ≤ n = omega arith in
+    ⊎-elim (λ (e : i ≡ n). rw (← e, t) (omega arith)) (λ (l : i < n). omega (arith, count-some n i p l t)) (eq-or-lt-of-le le)
+
+-- The numbers below n, and those from n on.
+pub count-split : (n m : ℕ) (p : ℕ → Bool) → countBelow (n + m) p ≡ countBelow n p + countBelow m (λ i. p (n + i))
+unfolding countBelow
+count-split n zero p = rw (add-zero n) (omega arith)
+count-split n (suc m) p = rw (add-suc n m, count-split n m p) (omega arith)
 
 -- Where each number that satisfies p satisfies just one of three tests, and each other number none of them, the three counts
 -- together are p's.
