@@ -8,7 +8,7 @@ mod by_number;
 mod chooser;
 mod form;
 mod opening;
-mod speculation;
+pub mod speculation;
 mod steps;
 
 /// A run of a job: the values handed out and the report on it. Of a speculative run also where its values came from:

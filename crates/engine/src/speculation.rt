@@ -18,7 +18,7 @@ use dependence::Job;
 use jobset::JobSet;
 
 /// Whether there is a speculative run in this phase: it is out, or its report is stored.
-pub(crate) fn is_live(phase: u8) -> bool
+pub fn is_live(phase: u8) -> bool
     ensures { λ r. ⌜ r ≡ isLive phase ⌝ }
 {
     if phase == 1 {

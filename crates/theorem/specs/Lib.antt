@@ -28,3 +28,4 @@ pub mod SameEnd
 pub mod Inserts
 pub mod Chooser
 pub mod Tallies
+pub mod Bypassed

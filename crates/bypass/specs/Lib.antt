@@ -1,0 +1,2 @@
+pub mod Bypass
+pub mod BypassLaws
