@@ -17,6 +17,10 @@ use Rattle.engine.specs.Ask.{jobAskRefusal}
 use Rattle.bypass.specs.declared.SetAnswer.{SetAnswer}
 use Rattle.bypass.specs.declared.SpeculationAnswer.{SpeculationAnswer}
 
+-- What is told of a set of no jobs.
+abbrev pub noJobs : SetAnswer
+noJobs = record { size = 0; present = false; lowest = 0 }
+
 -- R78: the size of a set, and its lowest job, 0 where there is none.
 unfoldable pub shownSet : ℕ → Option ℕ → SetAnswer
 shownSet size (some j) = record { size = size; present = true; lowest = j }
@@ -46,7 +50,7 @@ toldRun bypassed phase committed =
     }
 
 abbrev pub refusedSpeculation : ℕ → SpeculationAnswer
-refusedSpeculation refusal = record { refusal = refusal; bypassed = shownSet 0 none; «open» = shownSet 0 none }
+refusedSpeculation refusal = record { refusal = refusal; bypassed = noJobs; «open» = noJobs }
 
 unfoldable pub askedSpeculation : Batch → ℕ → SpeculationAnswer
 askedSpeculation b j =

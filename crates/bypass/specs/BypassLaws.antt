@@ -13,14 +13,15 @@ use Rattle.laws.specs.SearchLaws.{if-or}
 use Rattle.laws.specs.Refusal.{firstOf}
 use Rattle.dependence.specs.Ready.{isCommitted}
 use Rattle.jobset.specs.declared.JobSet.{JobSet}
-use Rattle.jobset.specs.JobSet.{hasJob, sizeOf, lowestOf}
+use Rattle.jobset.specs.JobSet.{emptySet, hasJob, sizeOf, lowestOf}
 use Rattle.jobset.specs.JobSetLaws.{has-beyond}
+use Rattle.jobset.specs.SizeLaws.{none-lowest, size-none}
 use Rattle.walk.specs.SourceLaws.{has-set-of}
 use Rattle.engine.specs.declared.Batch.{Batch}
 use Rattle.engine.specs.Record.{runAt}
 use Rattle.engine.specs.Form.{inForm}
 use Rattle.engine.specs.Ask.{jobAskRefusal}
-use Rattle.bypass.specs.Bypass.{shownSet, toldOf, openAt, openIn, toldRun, askedSpeculation}
+use Rattle.bypass.specs.Bypass.{noJobs, shownSet, toldOf, bypassedIn, openAt, openIn, toldRun, askedSpeculation}
 
 -- What is told of a set is told of its jobs.
 pub told-jobs : (set : JobSet) (p : ℕ → Bool) → ((i : ℕ) → hasJob set i ≡ p i) → toldOf set ≡ shownSet (countBelow 128 p) (leastBelow 128 p)
@@ -34,6 +35,19 @@ has-open set committed i =
     ∙ if-or (ltb i 128)
     (λ t. rw t)
     (λ f. rw (f, has-beyond set i (ltb-false i 128 f)))
+
+-- A guess that was never started is not told of, nor is one that is thrown away, whatever the run holds.
+
+pub never-started-none : (bypassed : JobSet) → bypassedIn bypassed 0 ≡ emptySet
+never-started-none bypassed = refl
+
+pub discarded-none : (bypassed : JobSet) → bypassedIn bypassed 3 ≡ emptySet
+discarded-none bypassed = refl
+
+-- Of no jobs it is told that there are none.
+pub told-none : (set : JobSet) → ((i : ℕ) → hasJob set i ≡ false) → toldOf set ≡ noJobs
+unfolding shownSet
+told-none set none-in = rw (size-none set none-in, none-lowest set none-in)
 
 -- Of a job held by a record in form it is told.
 pub asked-held : (b : Batch) (j : ℕ) → inForm b ≡ true → j < b .«job_count»

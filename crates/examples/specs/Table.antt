@@ -1,12 +1,12 @@
--- The worked examples P1 to P9, P11 and P12 as one table, shown by one theorem about the definitions.
--- The rows behind P12 are points of the same plans at which a call is refused, and a job of four accesses.
+-- The worked examples P1 to P9 and P11 to P13 as one table, shown by one theorem about the definitions.
+-- The rows behind P13 are points of the same plans at which a call is refused, and a job of four accesses.
 use Prim.Native.Nat.{ℕ, zero, suc}
 use mathlib.Core.Bool.{Bool, true, false}
 use mathlib.Core.List.{List, [], _∷_}
 use mathlib.Core.Path.{_≡_, refl}
 use lib.IntN.{ℤ, pos, negsuc}
 use lib.ListN.{getD}
-use Rattle.laws.specs.Search.{anyBelow}
+use Rattle.laws.specs.Search.{anyBelow, leastBelow}
 use Rattle.laws.specs.Fold.{foldBelow, countBelow}
 use Rattle.laws.specs.Refusal.{firstOf}
 use Rattle.laws.specs.Rows.{AllHold, end, _also_}
@@ -15,7 +15,7 @@ use Rattle.dependence.specs.Job.{noAccess}
 use Rattle.dependence.specs.Conflict.{touches, conflicts}
 use Rattle.admission.specs.Admission.{kindModes, jobRefusal}
 use Rattle.kinds.specs.Kinds.{reported, tableOf, resultOf}
-use Rattle.jobset.specs.JobSet.{bit, withBit, hasJob, withJob, reachesTo}
+use Rattle.jobset.specs.JobSet.{bit, withBit, hasJob, withJob, reachesTo, sizeOf, lowestOf}
 use Rattle.rules.specs.Values.{valueBelow, writeBack}
 use Rattle.rules.specs.Walk.{sourceBelow}
 use Rattle.rules.specs.Speculation.{isReady, invalidBelow, isInvalid, validity}
@@ -28,6 +28,8 @@ use Rattle.engine.specs.Ask.{cellRefusal, askedCell, jobAskRefusal, shownJob, a
 use Rattle.tally.specs.declared.Tally.{Tally}
 use Rattle.tally.specs.Tally.{tallyBelow, given, tallied}
 use Rattle.tally.specs.Examples.{numbers}
+use Rattle.bypass.specs.declared.SetAnswer.{SetAnswer}
+use Rattle.bypass.specs.Bypass.{noJobs, shownSet, askedSpeculation}
 use Rattle.examples.specs.Plan.{Line, insertion, sealing, step, ownReport, speculationReport, Plan, first, _then_}
 use Rattle.examples.specs.Plan.{answerTo, answersTo, answersIn, afterAll, final, settledIn, heldIn}
 
@@ -49,6 +51,10 @@ pub data Example : Type 0 where
   tally : Plan → Tally → Example
   -- after the plan: how many jobs there are, and whether the batch is finished
   held : Plan → ℕ → Bool → Example
+  -- after the plan: the job, and what is told of the jobs that its guess looked past, then of the open ones among them
+  past : Plan → ℕ → SetAnswer → SetAnswer → Example
+  -- after the plan: the job whose guess is asked for, and the refusal
+  notTold : Plan → ℕ → ℕ → Example
   -- after the plan: one line more, and the answer to it
   next : Plan → Line → ℕ → Example
 
@@ -61,6 +67,8 @@ Holds (height plan x value) = askedCell (final plan) x .height ≡ value
 Holds (judged plan j number) = askedJob (final plan) j .validity ≡ number
 Holds (tally plan numbers) = tallied (final plan) ≡ given numbers
 Holds (held plan jobs finished) = heldIn (final plan) ≡ record { jobs = jobs; finished = finished }
+Holds (past plan j all left) = askedSpeculation (final plan) j ≡ record { refusal = 0; bypassed = all; «open» = left }
+Holds (notTold plan j answer) = askedSpeculation (final plan) j .refusal ≡ answer
 Holds (next plan line answer) = answerTo (final plan) line ≡ answer
 
 -- The kinds by their names.
@@ -156,6 +164,46 @@ plan9 = record {
       ∷ step 1 2
       ∷ step 3 2
       ∷ step 2 0
+      ∷ [];
+}
+
+-- P13: two floors and a pair maybe-write the cells that the mean reads. It is guessed first, and then they run in turn.
+abbrev pairOf : ℕ → ℕ → Job
+pairOf a b = record {
+  kind = pair;
+  parameter = pos 0;
+  arity = 2;
+  accesses = record { cell = a; mode = 2 } ∷ record { cell = b; mode = 2 } ∷ noAccess ∷ noAccess ∷ [];
+}
+
+abbrev meanOf : ℕ → ℕ → ℕ → Job
+meanOf a b c = record {
+  kind = mean;
+  parameter = pos 0;
+  arity = 3;
+  accesses = record { cell = a; mode = 1 } ∷ record { cell = b; mode = 0 } ∷ record { cell = c; mode = 0 } ∷ noAccess ∷ [];
+}
+
+-- So many jobs, and the lowest of them.
+abbrev jobsFrom : ℕ → ℕ → SetAnswer
+jobsFrom size lowest = record { size = size; present = true; lowest = lowest }
+
+abbrev plan13 : Plan
+plan13 = record {
+  heights = pos 1500 ∷ pos 1480 ∷ pos 0 ∷ [];
+  lines =
+      insertion (jobOn floor (pos 1400) 0)
+      ∷ insertion (jobOn floor (pos 1400) 1)
+      ∷ insertion (pairOf 0 1)
+      ∷ insertion (meanOf 2 0 1)
+      ∷ sealing 1
+      ∷ step 1 3
+      ∷ step 0 0
+      ∷ step 2 0
+      ∷ step 0 1
+      ∷ step 2 1
+      ∷ step 0 2
+      ∷ step 2 2
       ∷ [];
 }
 
@@ -261,6 +309,20 @@ table =
     ∷ held planMeanwhile 3 true
     ∷ height planMeanwhile 0 (pos 1525)
     ∷ height planMeanwhile 1 (pos 1480)
+    -- P13 what a guess looked past: before its start; started; with job 0, job 1, job 2 settled; thrown away; of no job.
+    ∷ answers plan13 (0 ∷ 0 ∷ 0 ∷ 0 ∷ 0 ∷ 0 ∷ 0 ∷ 0 ∷ 0 ∷ 0 ∷ 0 ∷ 0 ∷ [])
+    ∷ past (first 5 plan13) 3 noJobs noJobs
+    ∷ past (first 6 plan13) 3 (jobsFrom 3 0) (jobsFrom 3 0)
+    ∷ past (first 8 plan13) 3 (jobsFrom 3 0) (jobsFrom 2 1)
+    ∷ past (first 10 plan13) 3 (jobsFrom 3 0) (jobsFrom 1 2)
+    ∷ past plan13 3 (jobsFrom 3 0) noJobs
+    ∷ settled plan13 2 1 1
+    ∷ judged plan13 3 3
+    ∷ past (plan13 then step 0 3) 3 noJobs noJobs
+    ∷ notTold plan13 4 11
+    -- R79: a guess that only took from another; a guess that its job is settled by.
+    ∷ past (first 9 plan9) 2 noJobs noJobs
+    ∷ past plan8 1 (jobsFrom 1 0) noJobs
     -- R45: no guess is started; it is out, and stored, and the job is not ready; the job is ready and the guess stands, and
     -- does so once the job is settled by it; it is thrown away.
     ∷ judged (first 4 plan8) 1 0
@@ -322,6 +384,7 @@ unfolding resultOf tableOf conflicts touches
     perform answersTo afterAll cellRefusal askedCell jobAskRefusal shownJob askedJob isFinished askedBatch opened inserted sealedWith startedOwn startedSpeculation reportedOwn reportedSpeculation committedBy
     withInserted withSealed withJobChanged inForm jobOut jobRefusal firstOf isReady isInvalid invalidBelow validity
     sourceBelow valueBelow setOf writeBack bit withBit hasJob withJob reachesTo anyBelow foldBelow tallied tallyBelow countBelow
+    askedSpeculation shownSet sizeOf lowestOf leastBelow
 examples-hold =
     refl also refl  -- P1
     also refl also refl  -- P2
@@ -335,6 +398,8 @@ examples-hold =
     also refl also refl also refl also refl also refl also refl  -- P11
     also refl also refl also refl also refl also refl also refl also refl also refl  -- P12, after the end
     also refl also refl also refl also refl also refl also refl  -- P12, meanwhile
+    also refl also refl also refl also refl also refl also refl also refl also refl also refl also refl  -- P13
+    also refl also refl  -- other guesses that are told of
     also refl also refl also refl also refl also refl also refl  -- how a guess is judged
     also refl  -- 12
     also refl also refl  -- 13, start own

@@ -58,10 +58,16 @@ tallyAnswer = 24 ∷ 0 ∷ 4 ∷ []
 abbrev shareAnswer : List ℕ
 shareAnswer = 16 ∷ 0 ∷ 8 ∷ []
 
+abbrev setAnswer : List ℕ
+setAnswer = 3 ∷ 0 ∷ 1 ∷ 2 ∷ []
+
+abbrev speculationAnswer : List ℕ
+speculationAnswer = 7 ∷ 0 ∷ 1 ∷ 4 ∷ []
+
 abbrev pub layout : List ℕ
 layout =
-    3
+    4
     ∷ batch ++ run ++ jobSet ++ job ++ access
     ++ report ++ handed ++ started ++ answer
     ++ choice ++ cellAnswer ++ jobAnswer ++ batchAnswer ++ outcome ++ planAnswer
-    ++ tally ++ tallyAnswer ++ shareAnswer
+    ++ tally ++ tallyAnswer ++ shareAnswer ++ setAnswer ++ speculationAnswer

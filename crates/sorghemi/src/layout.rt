@@ -5,9 +5,9 @@ ghost use lib.ListN.{getD};
 ghost use Rattle.sorghemi.specs.Layout.{layout};
 
 /// The version of the list, then of each struct its size and the offsets of its fields in their order.
-const NUMBERS: [u32; 86] = [
+const NUMBERS: [u32; 94] = [
     // the version
-    3,
+    4,
     // Batch
     10376,
     0,
@@ -111,6 +111,16 @@ const NUMBERS: [u32; 86] = [
     16,
     0,
     8,
+    // SetAnswer
+    3,
+    0,
+    1,
+    2,
+    // SpeculationAnswer
+    7,
+    0,
+    1,
+    4,
 ];
 
 /// R95: the number at a place of the list that hosts compare their own with; 0 past its end.
@@ -119,7 +129,7 @@ pub extern "C" fn sorghemi_layout(place: usize) -> u32
     ensures { λ r. ⌜ r ≡ getD layout place 0 ⌝ }
 {
     let numbers = NUMBERS;
-    if place < 86 {
+    if place < 94 {
         return numbers[place];
     }
     0

@@ -3,7 +3,9 @@
 ghost use mathlib.Core.Path.{_≡_};
 ghost use lib.ListN.{length};
 ghost use Rattle.engine.specs.Chooser.{chosen};
+ghost use Rattle.bypass.specs.Bypass.{askedSpeculation};
 ghost use Rattle.engine.specs.Ask.{askedCell, askedJob, askedBatch, copyAnswer, bufferAfter};
+use bypass::SpeculationAnswer;
 use engine::Batch;
 use engine::BatchAnswer;
 use engine::CellAnswer;
@@ -32,6 +34,14 @@ pub extern "C" fn sorghemi_ask_job(batch: Batch, job: usize) -> JobAnswer
     ensures { λ r. ⌜ r ≡ askedJob batch job ⌝ }
 {
     batch.job(job)
+}
+
+/// R79: what a job's guess looked past, and which of these jobs are not settled. Refused with 11 or 32.
+#[no_mangle]
+pub extern "C" fn sorghemi_ask_speculation(batch: Batch, job: usize) -> SpeculationAnswer
+    ensures { λ r. ⌜ r ≡ askedSpeculation batch job ⌝ }
+{
+    SpeculationAnswer::of(batch, job)
 }
 
 /// How the batch as a whole stands. Refused with 32.
