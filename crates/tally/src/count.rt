@@ -9,16 +9,13 @@ ghost use Rattle.tally.specs.Total.{largest, most};
 use crate::Tally;
 use crate::TallyAnswer;
 use engine::Batch;
+use engine::speculation::is_live;
 
 /// A job committed by its speculative run, in the record's column `committed`.
 const BY_SPECULATION: u8 = 2;
 
 /// The phases of a speculative run, in the record's column `phase`.
 const NEVER_STARTED: u8 = 0;
-
-const OUT: u8 = 1;
-
-const STORED: u8 = 2;
 
 const DISCARDED: u8 = 3;
 
@@ -39,10 +36,7 @@ fn is_pending(committed: u8, phase: u8) -> bool
     if committed != 0 {
         return false;
     }
-    if phase == OUT {
-        return true;
-    }
-    phase == STORED
+    is_live(phase)
 }
 
 impl Tally {
