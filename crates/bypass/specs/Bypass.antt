@@ -6,11 +6,12 @@ use mathlib.Core.List.{List}
 use mathlib.Core.Option.{Option, none, some}
 use lib.Dec.{eqb}
 use lib.ListN.{getD}
+use Rattle.laws.specs.Fold.{countBelow}
+use Rattle.laws.specs.Search.{leastBelow}
 use Rattle.dependence.specs.Ready.{isCommitted}
 use Rattle.jobset.specs.declared.JobSet.{JobSet}
-use Rattle.jobset.specs.JobSet.{emptySet, hasJob, sizeOf, lowestOf}
+use Rattle.jobset.specs.JobSet.{emptySet, hasJob}
 use Rattle.rules.specs.Snapshot.{isLive}
-use Rattle.walk.specs.Sources.{setOf}
 use Rattle.engine.specs.declared.Batch.{Batch}
 use Rattle.engine.specs.Record.{runAt}
 use Rattle.engine.specs.Ask.{jobAskRefusal}
@@ -21,13 +22,14 @@ use Rattle.bypass.specs.declared.SpeculationAnswer.{SpeculationAnswer}
 abbrev pub noJobs : SetAnswer
 noJobs = record { size = 0; present = false; lowest = 0 }
 
--- R78: the size of a set, and its lowest job, 0 where there is none.
+-- R78: a size and a lowest job, 0 where there is none.
 unfoldable pub shownSet : ℕ → Option ℕ → SetAnswer
 shownSet size (some j) = record { size = size; present = true; lowest = j }
 shownSet size none = record { size = size; present = false; lowest = 0 }
 
-abbrev pub toldOf : JobSet → SetAnswer
-toldOf set = shownSet (sizeOf set) (lowestOf set)
+-- What is told of the jobs that satisfy p: how many there are, and the least of them.
+abbrev pub toldOf : (ℕ → Bool) → SetAnswer
+toldOf p = shownSet (countBelow 128 p) (leastBelow 128 p)
 
 -- The jobs that a guess in the phase looked past: none where there is no guess, which is neither out nor stored.
 abbrev pub bypassedIn : JobSet → ℕ → JobSet
@@ -37,16 +39,13 @@ bypassedIn bypassed phase = cond (isLive phase) bypassed emptySet
 abbrev pub openAt : JobSet → List ℕ → ℕ → Bool
 openAt set committed i = hasJob set i && not (isCommitted (getD committed i 0))
 
-abbrev pub openIn : JobSet → List ℕ → JobSet
-openIn set committed = setOf 128 (openAt set committed)
-
 -- Both sets are told of.
 abbrev pub toldRun : JobSet → ℕ → List ℕ → SpeculationAnswer
 toldRun bypassed phase committed =
     record {
       refusal = 0;
-      bypassed = toldOf (bypassedIn bypassed phase);
-      «open» = toldOf (openIn (bypassedIn bypassed phase) committed);
+      bypassed = toldOf (hasJob (bypassedIn bypassed phase));
+      «open» = toldOf (openAt (bypassedIn bypassed phase) committed);
     }
 
 abbrev pub refusedSpeculation : ℕ → SpeculationAnswer

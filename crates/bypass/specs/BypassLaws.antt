@@ -9,27 +9,30 @@ use mathlib.Core.Path.{_≡_, refl, sym, _∙_}
 use lib.Dec.{leb, ltb}
 use lib.ListN.{getD}
 use borrow.Author.Tests.{ltb-false, lt-leb, le-leb, ne-eqb}
-use Rattle.laws.specs.Fold.{countBelow}
-use Rattle.laws.specs.Search.{leastBelow}
+use Rattle.laws.specs.FoldLaws.{count-none}
+use Rattle.laws.specs.LeastLaws.{least-none}
 use Rattle.laws.specs.SearchLaws.{if-or}
 use Rattle.laws.specs.Refusal.{firstOf}
 use Rattle.dependence.specs.Ready.{isCommitted}
 use Rattle.jobset.specs.declared.JobSet.{JobSet}
-use Rattle.jobset.specs.JobSet.{emptySet, hasJob, withJob, sizeOf, lowestOf, nextOf}
+use Rattle.jobset.specs.JobSet.{emptySet, hasJob, withJob, nextOf}
 use Rattle.jobset.specs.JobSetLaws.{has-beyond}
-use Rattle.jobset.specs.SizeLaws.{none-lowest, size-none, next-has, next-gap, next-none}
+use Rattle.jobset.specs.SizeLaws.{next-has, next-gap, next-none}
 use Rattle.walk.specs.Sources.{setOf}
 use Rattle.walk.specs.SourceLaws.{set-in, set-out, set-gap, has-set-of}
 use Rattle.engine.specs.declared.Batch.{Batch}
 use Rattle.engine.specs.Record.{runAt}
 use Rattle.engine.specs.Form.{inForm}
 use Rattle.engine.specs.Ask.{jobAskRefusal}
-use Rattle.bypass.specs.Bypass.{noJobs, shownSet, toldOf, bypassedIn, openAt, openIn, toldRun, refusedSpeculation, askedSpeculation}
+use Rattle.bypass.specs.Bypass.{noJobs, shownSet, toldOf, bypassedIn, openAt, toldRun, refusedSpeculation, askedSpeculation}
 
--- What is told of a set is told of its jobs.
-pub told-jobs : (set : JobSet) (p : ℕ → Bool) → ((i : ℕ) → hasJob set i ≡ p i) → toldOf set ≡ shownSet (countBelow 128 p) (leastBelow 128 p)
-unfolding sizeOf lowestOf
-told-jobs set p same = λ k. shownSet (countBelow 128 (λ i. same i k)) (leastBelow 128 (λ i. same i k))
+-- Of the same jobs the same is told.
+pub told-same : (p q : ℕ → Bool) → ((i : ℕ) → p i ≡ q i) → toldOf p ≡ toldOf q
+told-same p q same = λ k. toldOf (λ i. same i k)
+
+-- The open jobs as a set, which the code makes.
+abbrev pub openIn : JobSet → List ℕ → JobSet
+openIn set committed = setOf 128 (openAt set committed)
 
 -- The open jobs of a set are its jobs that are not settled.
 pub has-open : (set : JobSet) (committed : List ℕ) (i : ℕ) → hasJob (openIn set committed) i ≡ openAt set committed i
@@ -72,9 +75,9 @@ pub discarded-none : (bypassed : JobSet) → bypassedIn bypassed 3 ≡ emptySet
 discarded-none bypassed = refl
 
 -- Of no jobs it is told that there are none.
-pub told-none : (set : JobSet) → ((i : ℕ) → hasJob set i ≡ false) → toldOf set ≡ noJobs
+pub told-none : (p : ℕ → Bool) → ((i : ℕ) → p i ≡ false) → toldOf p ≡ noJobs
 unfolding shownSet
-told-none set none-in = rw (size-none set none-in, none-lowest set none-in)
+told-none p none-so = rw (count-none 128 p (λ i h. none-so i), least-none 128 p (λ i h. none-so i))
 
 -- Of a job held by a record in form it is told, and else it is refused.
 pub asked-held : (b : Batch) (j : ℕ) → inForm b ≡ true → j < b .«job_count»

@@ -3,7 +3,9 @@
 
 ghost use mathlib.Core.Path.{_≡_};
 ghost use lib.ListN.{length};
-ghost use Rattle.bypass.specs.Bypass.{toldOf, openIn, toldRun, refusedSpeculation, askedSpeculation};
+ghost use Rattle.jobset.specs.JobSet.{hasJob};
+ghost use Rattle.bypass.specs.Bypass.{toldOf, toldRun, refusedSpeculation, askedSpeculation};
+ghost use Rattle.bypass.specs.BypassLaws.{openIn};
 use engine::Batch;
 use engine::speculation::is_live;
 use jobset::JobSet;
@@ -28,7 +30,7 @@ pub struct SpeculationAnswer {
 
 /// R78: the size of the set and its lowest job.
 fn told(set: JobSet) -> SetAnswer
-    ensures { λ r. ⌜ r ≡ toldOf set ⌝ }
+    ensures { λ r. ⌜ r ≡ toldOf (hasJob set) ⌝ }
 {
     let size = set.size();
     let least = set.lowest();

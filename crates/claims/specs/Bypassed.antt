@@ -4,14 +4,11 @@ use mathlib.Core.Bool.{Bool, true, false, not, _&&_}
 use mathlib.Core.List.{List}
 use mathlib.Core.Path.{_≡_}
 use lib.IntN.{ℤ}
-use Rattle.laws.specs.Fold.{countBelow}
-use Rattle.laws.specs.Search.{leastBelow}
 use Rattle.rules.specs.Call.{Call}
 use Rattle.rules.specs.Speculation.{isReady}
 use Rattle.engine.specs.declared.Batch.{Batch}
 use Rattle.engine.specs.Opening.{opened}
-use Rattle.bypass.specs.declared.SetAnswer.{SetAnswer}
-use Rattle.bypass.specs.Bypass.{shownSet, askedSpeculation}
+use Rattle.bypass.specs.Bypass.{toldOf, askedSpeculation}
 use Rattle.claims.specs.Ledger.{Ledger, isCounted, guessBypassed, snapshotOfLedger}
 use Rattle.claims.specs.Trace.{batchOf, ledgerOf}
 
@@ -23,15 +20,11 @@ isBypassed l j i = guessBypassed (l .entry j .guess) i
 abbrev pub isOpen : Ledger → ℕ → ℕ → Bool
 isOpen l j i = isBypassed l j i && not (isCounted (l .entry i))
 
--- What is told of the jobs that satisfy p: how many there are, and the least of them.
-abbrev pub toldOfJobs : (ℕ → Bool) → SetAnswer
-toldOfJobs p = shownSet (countBelow 128 p) (leastBelow 128 p)
-
 -- What is claimed of a batch and the ledger of the calls that led to it.
 pub record GuessTold (b : Batch) (l : Ledger) : Type 0 where
   -- R183: of each job held these two sets are told
   pub told : (j : ℕ) → j < l .jobCount
-      → askedSpeculation b j ≡ record { refusal = 0; bypassed = toldOfJobs (isBypassed l j); «open» = toldOfJobs (isOpen l j) }
+      → askedSpeculation b j ≡ record { refusal = 0; bypassed = toldOf (isBypassed l j); «open» = toldOf (isOpen l j) }
   -- R184: while one of these jobs is open, the job is not ready
   pub waits : (j i : ℕ) → isOpen l j i ≡ true → isReady (snapshotOfLedger l) j ≡ false
 

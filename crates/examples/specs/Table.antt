@@ -15,7 +15,7 @@ use Rattle.dependence.specs.Job.{noAccess}
 use Rattle.dependence.specs.Conflict.{touches, conflicts}
 use Rattle.admission.specs.Admission.{kindModes, jobRefusal}
 use Rattle.kinds.specs.Kinds.{reported, tableOf, resultOf}
-use Rattle.jobset.specs.JobSet.{bit, withBit, hasJob, withJob, reachesTo, sizeOf, lowestOf}
+use Rattle.jobset.specs.JobSet.{bit, withBit, hasJob, withJob, reachesTo}
 use Rattle.rules.specs.Values.{valueBelow, writeBack}
 use Rattle.rules.specs.Walk.{sourceBelow}
 use Rattle.rules.specs.Speculation.{isReady, invalidBelow, isInvalid, validity}
@@ -384,7 +384,7 @@ unfolding resultOf tableOf conflicts touches
     perform answersTo afterAll cellRefusal askedCell jobAskRefusal shownJob askedJob isFinished askedBatch opened inserted sealedWith startedOwn startedSpeculation reportedOwn reportedSpeculation committedBy
     withInserted withSealed withJobChanged inForm jobOut jobRefusal firstOf isReady isInvalid invalidBelow validity
     sourceBelow valueBelow setOf writeBack bit withBit hasJob withJob reachesTo anyBelow foldBelow tallied tallyBelow countBelow
-    askedSpeculation shownSet sizeOf lowestOf leastBelow
+    askedSpeculation shownSet leastBelow
 examples-hold =
     refl also refl  -- P1
     also refl also refl  -- P2

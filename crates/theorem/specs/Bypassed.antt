@@ -27,12 +27,12 @@ use Rattle.engine.specs.declared.Batch.{Batch}
 use Rattle.engine.specs.Opening.{opened}
 use Rattle.engine.specs.Perform.{perform}
 use Rattle.engine.specs.Record.{runAt}
-use Rattle.bypass.specs.Bypass.{shownSet, toldOf, bypassedIn, openIn, askedSpeculation}
-use Rattle.bypass.specs.BypassLaws.{told-jobs, has-open, asked-held}
+use Rattle.bypass.specs.Bypass.{toldOf, bypassedIn, openAt, askedSpeculation}
+use Rattle.bypass.specs.BypassLaws.{told-same, asked-held}
 use Rattle.claims.specs.Ledger.{Report, Counted, GuessEntry, never, entered, reported, struck, Entry, Ledger, emptyLedger}
 use Rattle.claims.specs.Ledger.{isCounted, guessPhase, guessBypassed, snapshotOfLedger, struckOut, withReport, stepEntered, enter}
 use Rattle.claims.specs.Trace.{eventOf, eventsOf, recorded, ledgerAfter, ledgerOf}
-use Rattle.claims.specs.Bypassed.{isBypassed, isOpen, toldOfJobs, GuessTold, GuessToldStatement}
+use Rattle.claims.specs.Bypassed.{isBypassed, isOpen, GuessTold, GuessToldStatement}
 use Rattle.model.specs.Cases.{below-or}
 use Rattle.theorem.specs.Update.{at-or, update-same, update-other}
 use Rattle.theorem.specs.Faithful.{Faithful, faithful-form, stage-phase, stage-committed}
@@ -57,20 +57,18 @@ module _ {b : Batch} {l : Ledger} (agree : Faithful b l) (j : ℕ) where
       rw (stage-phase (agree .job-is j .stage))
       (live-has (l .entry j .guess) (runAt b j .bypassed) i (agree .job-is j .bypassed-are i))
 
-  open-has : (i : ℕ) → hasJob (openIn held (b .committed)) i ≡ isOpen l j i
-  open-has i =
-      has-open held (b .committed) i
-      ∙ ap₂ (λ (s t : Bool). s && not t) (held-has i) (stage-committed (agree .job-is i .stage))
+  open-is : (i : ℕ) → openAt held (b .committed) i ≡ isOpen l j i
+  open-is i = ap₂ (λ (s t : Bool). s && not t) (held-has i) (stage-committed (agree .job-is i .stage))
 
   faithful-told : j < l .jobCount
-      → askedSpeculation b j ≡ record { refusal = 0; bypassed = toldOfJobs (isBypassed l j); «open» = toldOfJobs (isOpen l j) }
+      → askedSpeculation b j ≡ record { refusal = 0; bypassed = toldOf (isBypassed l j); «open» = toldOf (isOpen l j) }
   faithful-told h =
       asked-held b j (faithful-form agree) (omega (arith, agree .job-count))
       ∙ (λ k.
       record {
         refusal = 0;
-        bypassed = told-jobs held (isBypassed l j) held-has k;
-        «open» = told-jobs (openIn held (b .committed)) (isOpen l j) open-has k;
+        bypassed = told-same (hasJob held) (isBypassed l j) held-has k;
+        «open» = told-same (openAt held (b .committed)) (isOpen l j) open-is k;
       })
 
 -- R184. A guess looks past a job only by a cell that both have and that the earlier one maybe-writes, so the two conflict.

@@ -1,6 +1,6 @@
 -- `told` meets its contract: each case of the enum as a struct.
 use borrow.Author.Needs.{needs}
-use Rattle.jobset.specs.JobSet.{leastOf}
+use Rattle.jobset.specs.JobSet.{sizeOf, lowestOf, leastOf}
 use Rattle.bypass.specs.Bypass.{shownSet}
 use Rattle.bypass.proofs.told.Statement.{statement}
 use Rattle.bypass.proofs.told.Tie as tie
@@ -19,14 +19,14 @@ enum-told c = search needs
 
 -- the set has a lowest job
 returns : tie.Need-returns
-unfolding shownSet leastOf
+unfolding shownSet sizeOf lowestOf leastOf
 returns c =
     let asked = c .before .before .before in
     rw (asked .before .size .ensures, ← asked .lowest .ensures, c .before .least .given .1)
 
 -- it is empty
 returns-2 : tie.Need-returns-2
-unfolding shownSet leastOf
+unfolding shownSet sizeOf lowestOf leastOf
 returns-2 c =
     let asked = c .before .before in
     rw (asked .before .size .ensures, ← asked .lowest .ensures, c .enum-told .given .1)

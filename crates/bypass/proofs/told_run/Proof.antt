@@ -1,8 +1,10 @@
 -- `told_run` meets its contract.
 use mathlib.Core.Logic.{⊎-elim}
 use mathlib.Core.Path.{_≡_, _∙_}
+use denote.Ref.{now}
 use borrow.Author.Needs.{needs}
 use Rattle.bypass.specs.Bypass.{bypassedIn}
+use Rattle.bypass.specs.BypassLaws.{told-same, has-open}
 use Rattle.bypass.proofs.told_run.Statement.{statement}
 use Rattle.bypass.proofs.told_run.Tie as tie
 
@@ -30,7 +32,7 @@ returns c =
         ⊎-elim (λ h. h .1 ∙ rw (← m .before .is-live .ensures, h .0 .taken))
         (λ h. h .1 ∙ m .before .before .empty .ensures ∙ rw (← m .before .is-live .ensures, h .0 .left))
         (m .if1 .came) in
-    rw (c .told2 .ensures, c .before .told .ensures, opened .open-in .ensures, known)
+    rw (c .told2 .ensures, c .before .told .ensures, opened .open-in .ensures, known, told-same _ _ (has-open (bypassedIn (a .bypassed) (a .phase)) (now (a .committed))))
 
 pub told-run-spec : {M : Type 1} → statement M
 told-run-spec =
