@@ -4,9 +4,9 @@
 
 use sorghemi::raw::{
     sorghemi_answer_plan, sorghemi_ask_batch, sorghemi_ask_cell, sorghemi_ask_job,
-    sorghemi_ask_tally, sorghemi_choose, sorghemi_copy_out, sorghemi_insert, sorghemi_kept_share,
-    sorghemi_open, sorghemi_result, sorghemi_seal, sorghemi_step, sorghemi_step_by_value,
-    sorghemi_total, Access, Answer,
+    sorghemi_ask_speculation, sorghemi_ask_tally, sorghemi_choose, sorghemi_copy_out,
+    sorghemi_insert, sorghemi_kept_share, sorghemi_open, sorghemi_result, sorghemi_seal,
+    sorghemi_step, sorghemi_step_by_value, sorghemi_total, Access, Answer,
 };
 use sorghemi::{Record, Report, Tally};
 
@@ -35,7 +35,7 @@ pub fn result(job: &Job, handed: [i32; 4]) -> Option<([i32; 4], u8)> {
 }
 
 /// The stack that the library's other calls touch, on the sealed batch and on a plan.
-pub fn other_stacks(batch: &Batch, plan: &str) -> [(&'static str, usize); 10] {
+pub fn other_stacks(batch: &Batch, plan: &str) -> [(&'static str, usize); 11] {
     let Lent(record) = prepare(batch, &mut Unwatched);
     let job = &batch.jobs[0];
     let heights = &batch.heights;
@@ -48,6 +48,7 @@ pub fn other_stacks(batch: &Batch, plan: &str) -> [(&'static str, usize); 10] {
     let open = stack::of(|| unsafe { sorghemi_open(heights.as_ptr(), places) });
     let ask_cell = stack::of(|| unsafe { sorghemi_ask_cell(record, 0) });
     let ask_job = stack::of(|| unsafe { sorghemi_ask_job(record, 0) });
+    let ask_guess = stack::of(|| unsafe { sorghemi_ask_speculation(record, 0) });
     let ask_batch = stack::of(|| unsafe { sorghemi_ask_batch(record) });
     let tallies = [Tally::default(); 31];
     let ask_tally = stack::of(|| unsafe { sorghemi_ask_tally(record) });
@@ -59,6 +60,7 @@ pub fn other_stacks(batch: &Batch, plan: &str) -> [(&'static str, usize); 10] {
         ("open", open),
         ("ask cell", ask_cell),
         ("ask job", ask_job),
+        ("ask guess", ask_guess),
         ("ask batch", ask_batch),
         ("copy out", copy_out),
         ("ask tally", ask_tally),

@@ -106,6 +106,19 @@ static void print_tallies(const sorghemi_batch *batch)
     print_tally("a quiet day", quiet);
 }
 
+/* What the job's guess looked past, and for which of these jobs it still waits. */
+static void print_guess(const sorghemi_batch *batch, size_t job)
+{
+    sorghemi_speculation_answer guess = sorghemi_batch_ask_speculation(batch, job);
+    expect_accepted("ask", guess.refusal);
+    printf("guess of job %zu: looked past %d; ", job, guess.bypassed.size);
+    if (guess.open.present) {
+        printf("%d open, the lowest job %d\n", guess.open.size, guess.open.lowest);
+    } else {
+        printf("none open\n");
+    }
+}
+
 static void open_monday(sorghemi_batch *batch)
 {
     const int32_t heights[] = {1500, 1480};
@@ -122,7 +135,9 @@ static void run_monday(sorghemi_batch *batch)
     sorghemi_choice choice = choose(batch);
     sorghemi_handed to_shift = step(batch, choice.step, choice.job, nothing);
     step(batch, SORGHEMI_STEP_REPORT_SPECULATION, 1, work(&shift, &to_shift));
+    print_guess(batch, 1);
     step(batch, SORGHEMI_STEP_REPORT_OWN, 0, work(&spike, &to_spike));
+    print_guess(batch, 1);
     step(batch, SORGHEMI_STEP_COMMIT, 1, nothing);
 }
 
