@@ -1,19 +1,18 @@
 -- Laws of what is told of a guess, for the claims above.
 use Prim.Native.Nat.{ℕ, _+_, _<_, _≤_}
 use native.Mathlib.Omega.{arith}
-use mathlib.Core.Bool.{Bool, true, false, not, _&&_}
+use mathlib.Core.Bool.{Bool, true, false}
 use mathlib.Core.List.{List}
 use mathlib.Core.Logic.{_≢_}
 use mathlib.Core.Option.{none, some}
 use mathlib.Core.Path.{_≡_, refl, sym, _∙_}
-use lib.Dec.{leb, ltb}
+use lib.Dec.{ltb}
 use lib.ListN.{getD}
 use borrow.Author.Tests.{ltb-false, lt-leb, le-leb, ne-eqb}
 use Rattle.laws.specs.FoldLaws.{count-none}
 use Rattle.laws.specs.LeastLaws.{least-none}
 use Rattle.laws.specs.SearchLaws.{if-or}
 use Rattle.laws.specs.Refusal.{firstOf}
-use Rattle.dependence.specs.Ready.{isCommitted}
 use Rattle.jobset.specs.declared.JobSet.{JobSet}
 use Rattle.jobset.specs.JobSet.{emptySet, hasJob, withJob, nextOf}
 use Rattle.jobset.specs.JobSetLaws.{has-beyond}

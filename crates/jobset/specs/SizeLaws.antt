@@ -4,18 +4,17 @@ use native.Mathlib.Omega.{arith}
 use native.Mathlib.Nat.{div-one}
 use mathlib.Core.Bool.{Bool, true, false, cond, not, _&&_}
 use mathlib.Core.Option.{Option, none, some}
-use mathlib.Core.Path.{_≡_, refl, sym, _∙_, ap, ap₂}
+use mathlib.Core.Path.{_≡_, sym, _∙_, ap, ap₂}
 use lib.Dec.{eqb, leb, ltb, leb·zero}
 use lib.Count.{ones, trailingZeros}
 use lib.Pow.{shr-le}
-use borrow.Author.Tests.{ltb-true, ltb-false, leb-true, le-leb, lt-leb, eqb-true, eq-eqb}
+use borrow.Author.Tests.{ltb-true, ltb-false, leb-true, le-leb, eqb-true}
 use Rattle.laws.specs.Search.{leastBelow}
 use Rattle.laws.specs.SearchLaws.{if-or, clash, and-left, and-right}
-use Rattle.laws.specs.LeastLaws.{IsLeast, least-none, least-is, none-fails, some-least}
-use Rattle.laws.specs.Fold.{countBelow}
+use Rattle.laws.specs.LeastLaws.{least-none, least-is, none-fails, some-least}
 use Rattle.laws.specs.FoldLaws.{count-same, count-none, count-some, count-limit, count-split}
 use Rattle.jobset.specs.declared.JobSet.{JobSet}
-use Rattle.jobset.specs.JobSet.{bit, hasJob, sizeOf, lowestOf, nextOf, leastIn}
+use Rattle.jobset.specs.JobSet.{bit, hasJob, sizeOf, lowestOf, nextOf}
 use Rattle.jobset.specs.Bits.{bit-shifted, bit-zero, bit-outside, clear-from, ones-count, trailing-clear, trailing-lowest}
 use Rattle.jobset.specs.JobSetLaws.{has-low, has-high, has-beyond}
 
@@ -122,7 +121,11 @@ word-next set w j first h le gap same f =
     let place : i ≡ first + (i - first) = omega arith in
     rw place (same (i - first) (omega arith) ∙ trailing-clear 64 w (i - first) (omega arith))))
 
--- The words as the code asks them, shifted so that the bit of job j comes first. What a shift leaves fits the word.
+-- The words as the code asks them: the least job of one whose bit 0 stands for job `first`.
+abbrev pub leastIn : ℕ → ℕ → Option ℕ
+leastIn w first = cond (eqb w 0) none (some (first + trailingZeros 64 w))
+
+-- A word is shifted so that the bit of job j comes first. What a shift leaves fits the word.
 left-fits : (w j : ℕ) → w < 2 ^ 64 → w / 2 ^ j < 2 ^ 64
 left-fits w j h = omega (arith, shr-le w j)
 
@@ -180,7 +183,7 @@ pub next-past-low : (set : JobSet) (j : ℕ) → set .high < 2 ^ 64 → j < 64 �
     → leastIn (set .high) 64 ≡ nextOf set j
 next-past-low set j h l e =
     let gap : (k : ℕ) → j ≤ k → k < 64 → hasJob set k ≡ false =
-        λ k a b. has-low set k b ∙ clear-from (set .low) j k (ap not e) a in
+    λ k a b. has-low set k b ∙ clear-from (set .low) j k (ap not e) a in
     rw div-one at (high-next set 0 j h (omega arith) gap)
 
 pub next-high : (set : JobSet) (j : ℕ) → set .high < 2 ^ 64 → 64 ≤ j → leastIn (set .high / 2 ^ (j - 64)) j ≡ nextOf set j

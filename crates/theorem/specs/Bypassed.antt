@@ -10,29 +10,26 @@ use lib.Dec.{eqb, leb, ltb}
 use lib.IntN.{ℤ}
 use lib.ListN.{getD}
 use borrow.Author.Tests.{eqb-true}
-use Rattle.laws.specs.Search.{anyBelow}
-use Rattle.laws.specs.SearchLaws.{if-or, clash, and-left, and-right, any-find, any-found}
+use Rattle.laws.specs.SearchLaws.{clash, and-left, and-right, any-find, any-found}
 use Rattle.dependence.specs.declared.Job.{Job}
 use Rattle.dependence.specs.Job.{inUse, accessAt}
 use Rattle.dependence.specs.Conflict.{conflicts}
 use Rattle.dependence.specs.ConflictLaws.{writer-conflicts}
 use Rattle.jobset.specs.declared.JobSet.{JobSet}
-use Rattle.jobset.specs.JobSet.{emptySet, hasJob}
+use Rattle.jobset.specs.JobSet.{hasJob}
 use Rattle.jobset.specs.JobSetLaws.{has-empty}
-use Rattle.rules.specs.Walk.{accessIs, maybeWrites, bypassAt, bypasses}
+use Rattle.rules.specs.Walk.{accessIs, bypassAt, bypasses}
 use Rattle.rules.specs.Speculation.{waits, isReady}
-use Rattle.rules.specs.Snapshot.{isLive}
 use Rattle.rules.specs.Call.{Call, insert, seal, startOwn, startSpeculation, reportOwn, reportSpeculation, commit}
 use Rattle.engine.specs.declared.Batch.{Batch}
-use Rattle.engine.specs.Opening.{opened}
 use Rattle.engine.specs.Perform.{perform}
 use Rattle.engine.specs.Record.{runAt}
 use Rattle.bypass.specs.Bypass.{toldOf, bypassedIn, openAt, askedSpeculation}
 use Rattle.bypass.specs.BypassLaws.{told-same, asked-held}
-use Rattle.claims.specs.Ledger.{Report, Counted, GuessEntry, never, entered, reported, struck, Entry, Ledger, emptyLedger}
+use Rattle.claims.specs.Ledger.{Report, Counted, GuessEntry, never, entered, reported, struck, Entry, Ledger}
 use Rattle.claims.specs.Ledger.{isCounted, guessPhase, guessBypassed, snapshotOfLedger, struckOut, withReport, stepEntered, enter}
-use Rattle.claims.specs.Trace.{eventOf, eventsOf, recorded, ledgerAfter, ledgerOf}
-use Rattle.claims.specs.Bypassed.{isBypassed, isOpen, GuessTold, GuessToldStatement}
+use Rattle.claims.specs.Trace.{eventsOf, ledgerAfter}
+use Rattle.claims.specs.Bypassed.{isBypassed, isOpen, GuessToldStatement}
 use Rattle.model.specs.Cases.{below-or}
 use Rattle.theorem.specs.Update.{at-or, update-same, update-other}
 use Rattle.theorem.specs.Faithful.{Faithful, faithful-form, stage-phase, stage-committed}
@@ -118,7 +115,7 @@ unfolding enter
 enter-conflicts {b} {l} agree past (insert job) handed j i e =
     let n = l .jobCount in
     let nothing : n ≤ j → isBypassed l j i ≡ false =
-        λ h. ap (λ (entry : Entry). guessBypassed (entry .guess) i) (agree .nothing-beyond j h) in
+    λ h. ap (λ (entry : Entry). guessBypassed (entry .guess) i) (agree .nothing-beyond j h) in
     let j-held : j < n = below-or j n (λ h. h) (λ h. clash e (nothing h)) in
     let i-before : i < j = below-or i j (λ h. h) (λ h. clash e (agree .job-is j .bypassed-before i h)) in
     rw (update-other (l .job) n job i (λ q. omega arith), update-other (l .job) n job j (λ q. omega arith)) (past j i e)

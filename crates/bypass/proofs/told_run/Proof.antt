@@ -29,9 +29,9 @@ returns c =
     let m = opened .before in
     let a = m .before .before .before .args in
     let known : m .if1 .known ≡ bypassedIn (a .bypassed) (a .phase) =
-        ⊎-elim (λ h. h .1 ∙ rw (← m .before .is-live .ensures, h .0 .taken))
-        (λ h. h .1 ∙ m .before .before .empty .ensures ∙ rw (← m .before .is-live .ensures, h .0 .left))
-        (m .if1 .came) in
+    ⊎-elim (λ h. h .1 ∙ rw (← m .before .is-live .ensures, h .0 .taken))
+    (λ h. h .1 ∙ m .before .before .empty .ensures ∙ rw (← m .before .is-live .ensures, h .0 .left))
+    (m .if1 .came) in
     rw (c .told2 .ensures, c .before .told .ensures, opened .open-in .ensures, known, told-same _ _ (has-open (bypassedIn (a .bypassed) (a .phase)) (now (a .committed))))
 
 pub told-run-spec : {M : Type 1} → statement M
