@@ -10,6 +10,7 @@
 use std::collections::BTreeSet;
 
 use crate::kinds;
+use crate::sets::{GuessTold, Told};
 use crate::tally::Tally;
 
 /// R3: the modes of an access.
@@ -642,6 +643,21 @@ impl Batch {
             return Err(11);
         }
         Ok(self.judged(job as usize))
+    }
+
+    /// R79: what the job's guess looked past, and what of that is not settled; R111
+    /// where there is no such job.
+    pub fn ask_looked_past(&self, job: u32) -> Result<GuessTold, u32> {
+        let entry = self.jobs.get(job as usize).ok_or(11u32)?;
+        let looked_past: Vec<usize> = match &entry.guess {
+            None => Vec::new(),
+            Some(guess) if guess.state == GuessState::ThrownAway => Vec::new(),
+            // Out or stored; R55: the latter also where its job is settled by it.
+            Some(guess) => guess.looked_past.iter().copied().collect(),
+        };
+        let mut open = looked_past.clone();
+        open.retain(|&past| !self.is_settled(past));
+        Ok(GuessTold { looked_past: Told::of(&looked_past), open: Told::of(&open) })
     }
 
     /// R75: each number counted over the jobs by itself.

@@ -10,6 +10,7 @@ pub mod lists;
 pub mod plan;
 pub mod plans;
 pub mod record;
+pub mod sets;
 pub mod tally;
 
 /// The whole output of the program for one whole input.

@@ -15,6 +15,7 @@
 use std::ops::Range;
 
 use crate::kinds;
+use crate::sets::{GuessTold, Told};
 use crate::tally::Tally;
 
 const READ: u8 = 0;
@@ -823,6 +824,28 @@ impl Record {
             reported: run.reported,
             job: self.jobs[job],
         }
+    }
+
+    /// R79: what the job's guess looked past, and what of that is not settled. R81:
+    /// no jobs where it is refused.
+    pub fn ask_looked_past(&self, job: usize) -> (u8, GuessTold) {
+        if !self.in_form() {
+            return (32, GuessTold::default());
+        }
+        // R111: no such job.
+        if !self.held().contains(&job) {
+            return (11, GuessTold::default());
+        }
+        // By the state of the guess alone (R93), however its job is settled. What
+        // stands in the run of a job without one is not looked at.
+        let has_one = self.phase[job] == OUT || self.phase[job] == STORED;
+        let past = |other| has_one && self.runs[job].looked_past(other);
+        let open = |other| past(other) && self.committed[other] == NOT_SETTLED;
+        let told = GuessTold {
+            looked_past: Told::among(past),
+            open: Told::among(open),
+        };
+        (0, told)
     }
 
     pub fn ask_batch(&self) -> BatchAnswer {

@@ -1,4 +1,4 @@
-//! The worked examples of the rules, P1 to P12, Monday's and Thursday's batch, and
+//! The worked examples of the rules, P1 to P13, Monday's and Thursday's batch, and
 //! some others.
 
 use second_hand::answer;
@@ -6,6 +6,7 @@ use second_hand::engine::{conflict, Access, Batch, Job, Report, Settled, MAYBE, 
 use second_hand::kinds;
 use second_hand::lists::{Answer, Call};
 use second_hand::record::{self, Record};
+use second_hand::sets::{GuessTold, Told};
 use second_hand::tally::{total, Tally};
 
 fn told(plan: &str) -> String {
@@ -286,12 +287,16 @@ struct Both {
 }
 
 impl Both {
-    /// A floor and so many shifts on cell 0; not sealed.
-    fn floor_and_shifts(heights: &[i32], shifts: usize) -> Both {
-        let mut both = Both {
+    fn open(heights: &[i32]) -> Both {
+        Both {
             batch: Batch::open(heights).unwrap(),
             record: Record::open(heights).unwrap(),
-        };
+        }
+    }
+
+    /// A floor and so many shifts on cell 0; not sealed.
+    fn floor_and_shifts(heights: &[i32], shifts: usize) -> Both {
+        let mut both = Both::open(heights);
         both.insert(4, 1400, 2);
         for _ in 0..shifts {
             both.insert(2, 20, 1);
@@ -300,11 +305,17 @@ impl Both {
     }
 
     fn insert(&mut self, kind: u8, parameter: i32, mode: u8) {
+        self.insert_on(kind, parameter, &[(0, mode)]);
+    }
+
+    fn insert_on(&mut self, kind: u8, parameter: i32, used: &[(u8, u8)]) {
+        let mut accesses = [(0, 0); 4];
+        accesses[..used.len()].copy_from_slice(used);
         let job = record::Job {
             kind,
             parameter,
-            arity: 1,
-            accesses: [(0, mode), (0, 0), (0, 0), (0, 0)],
+            arity: used.len() as u8,
+            accesses,
         };
         assert_eq!(self.call(Call::Insert(job)), 0);
     }
@@ -342,6 +353,15 @@ impl Both {
         assert_eq!(self.batch.tally().numbers(), due);
         assert_eq!(self.record.ask_tally(), (0, Tally::of_numbers(due)));
         Tally::of_numbers(due)
+    }
+
+    /// Asking the job's guess tells of the jobs looked past and of the open ones this
+    /// size and lowest, on both.
+    fn tells(&self, job: usize, past: (usize, Option<usize>), open: (usize, Option<usize>)) {
+        let [looked_past, open] = [past, open].map(|(size, lowest)| Told { size, lowest });
+        let told = GuessTold { looked_past, open };
+        assert_eq!(self.record.ask_looked_past(job), (0, told));
+        assert_eq!(self.batch.ask_looked_past(job as u32), Ok(told));
     }
 
     /// Both are finished or both are not, and have these cells.
@@ -463,4 +483,33 @@ fn p12_a_job_while_both_runs_are_out() {
     both.stands(false, [1520, 1480]);
     assert_eq!(both.step(4, 2), 0);
     both.stands(true, [1525, 1480]);
+}
+
+#[test]
+fn p13_what_a_guess_looked_past() {
+    let mut both = Both::open(&[1500, 1480, 0]);
+    both.insert_on(4, 1400, &[(0, 2)]);
+    both.insert_on(4, 1400, &[(1, 2)]);
+    both.insert_on(6, 0, &[(0, 2), (1, 2)]);
+    both.insert_on(5, 0, &[(2, 1), (0, 0), (1, 0)]);
+    assert_eq!(both.call(Call::Seal(1)), 0);
+    let none = (0, None);
+    both.tells(3, none, none);
+    assert_eq!(both.step(1, 3), 0);
+    let three = (3, Some(0));
+    both.tells(3, three, three);
+    for (job, open) in [(0, (2, Some(1))), (1, (1, Some(2))), (2, none)] {
+        assert_eq!(both.step(0, job), 0);
+        assert_eq!(both.step(2, job), 0);
+        both.tells(3, three, open);
+    }
+    // The pair has changed places.
+    assert_eq!(both.record.ask_job(2).wrote, 1);
+    assert!(both.batch.guess_has_fallen(3));
+    assert_eq!(both.record.ask_job(3).validity, 3);
+    assert_eq!(both.step(0, 3), 0);
+    both.tells(3, none, none);
+    let refused = (11, GuessTold::default());
+    assert_eq!(both.record.ask_looked_past(4), refused);
+    assert_eq!(both.batch.ask_looked_past(4), Err(11));
 }

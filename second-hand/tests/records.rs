@@ -5,6 +5,7 @@
 use second_hand::engine::{Access, Batch, GuessState, Report, Settled};
 use second_hand::kinds;
 use second_hand::record::{BatchAnswer, Job, JobAnswer, Record, Run};
+use second_hand::sets::GuessTold;
 use second_hand::tally::Tally;
 
 const READ: u8 = 0;
@@ -397,6 +398,9 @@ impl Pair {
             }
         );
         assert_eq!(self.batch.ask_guess(jobs), Err(11));
+        let refused = (11, GuessTold::default());
+        assert_eq!(self.record.ask_looked_past(jobs as usize), refused);
+        assert_eq!(self.batch.ask_looked_past(jobs), Err(11));
         self.compare_choice();
         let at = dice.below(8) as usize;
         let mut one = vec![-9; cells as usize + 4];
@@ -451,6 +455,8 @@ impl Pair {
             job: inserted,
         };
         assert_eq!(self.record.ask_job(place), answer);
+        let (refusal, told) = self.record.ask_looked_past(place);
+        assert_eq!((refusal, Ok(told)), (0, self.batch.ask_looked_past(job)));
         assert_eq!(
             accesses_of(&inserted),
             self.batch.job(job).unwrap().accesses
@@ -657,6 +663,10 @@ fn out_of_form(record: &Record) {
         }
     );
     assert_eq!(record.ask_tally(), (32, Tally::default()));
+    for place in [0, 3, 127, 128, 999] {
+        let refused = (32, GuessTold::default());
+        assert_eq!(record.ask_looked_past(place), refused);
+    }
     let mut buffer = [3; 70];
     assert_eq!(record.copy_out(&mut buffer, 0), 32);
     assert_eq!(record.copy_out(&mut buffer, 70), 32);
