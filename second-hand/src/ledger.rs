@@ -2,9 +2,12 @@
 //! arguments, whether it was accepted, and what a start handed out. Nothing is read
 //! from a batch. R numbers are the rules of docs/RULES.md.
 
+use std::collections::BTreeSet;
+
 use crate::engine::Report;
 use crate::lists::{Answer, Call};
 use crate::record::Job;
+use crate::sets::{GuessTold, Told};
 
 /// R56: the run that counts, and what was reported of it.
 #[derive(Clone, Copy, Debug)]
@@ -14,17 +17,27 @@ pub struct Counted {
     pub by_guess: bool,
 }
 
+/// What is entered of a guess.
+#[derive(Clone, Debug)]
+pub struct Guess {
+    pub handed: [i32; 4],
+    pub report: Option<Report>,
+    /// The jobs that it looked past and those that it took from, by R41, as the
+    /// ledger stood when it started; going up.
+    pub looked_past: Vec<usize>,
+    pub taken_from: Vec<usize>,
+}
+
 /// What is entered of one job.
-#[derive(Clone, Copy, Debug)]
+#[derive(Clone, Debug)]
 pub struct Line {
     pub job: Job,
     /// Whether the batch was sealed when it came in.
     pub added: bool,
     /// What the own run was handed, once it is started.
     pub own: Option<[i32; 4]>,
-    /// What the guess was handed, and its report once there is one; none where it
-    /// was never started or is struck out.
-    pub guess: Option<([i32; 4], Option<Report>)>,
+    /// None where it was never started or is struck out.
+    pub guess: Option<Guess>,
     pub counted: Option<Counted>,
     /// R163: the accepted steps.
     pub steps: u32,
@@ -72,9 +85,59 @@ impl Ledger {
                     values,
                     mark: u32::from(mark),
                 };
-                self.jobs[job].enter(number, handed, report);
+                let started = (number == 1).then(|| self.new_guess(job, handed));
+                self.jobs[job].enter(number, handed, report, started);
             }
         }
+    }
+
+    /// R41, as the ledger stands. Of a cell of the job the guess takes from the last
+    /// open writer before it, and looks past the open maybe-writers after that one, or
+    /// past all of them where there is none.
+    fn new_guess(&self, job: usize, handed: [i32; 4]) -> Guess {
+        let (mut looked_past, mut taken_from) = (BTreeSet::new(), BTreeSet::new());
+        for &(cell, _) in self.jobs[job].job.used() {
+            let open = |mode: u8| {
+                let before = self.jobs[..job].iter().enumerate();
+                let open = before.filter(|(_, line)| line.counted.is_none());
+                let having = open.filter(move |(_, line)| line.job.used().contains(&(cell, mode)));
+                having.map(|(other, _)| other)
+            };
+            let writer = open(1).last();
+            taken_from.extend(writer);
+            looked_past.extend(open(2).filter(|&other| Some(other) > writer));
+        }
+        Guess {
+            handed,
+            report: None,
+            looked_past: looked_past.into_iter().collect(),
+            taken_from: taken_from.into_iter().collect(),
+        }
+    }
+
+    /// R183: what asking the job's guess tells.
+    pub fn told(&self, job: usize) -> GuessTold {
+        let Some(guess) = &self.jobs[job].guess else {
+            return GuessTold::default();
+        };
+        let is_open = |other: &usize| self.jobs[*other].counted.is_none();
+        let open: Vec<usize> = guess.looked_past.iter().copied().filter(is_open).collect();
+        GuessTold {
+            looked_past: Told::of(&guess.looked_past),
+            open: Told::of(&open),
+        }
+    }
+
+    /// R21: every earlier job that conflicts with it (R20) has a counted report.
+    pub fn is_ready(&self, job: usize) -> bool {
+        let accesses = self.jobs[job].job.used();
+        let clash = |a: &(u8, u8), b: &(u8, u8)| a.0 == b.0 && (a.1 != 0 || b.1 != 0);
+        let conflicts = |other: &Line| {
+            let mut theirs = other.job.used().iter();
+            theirs.any(|a| accesses.iter().any(|b| clash(a, b)))
+        };
+        let mut before = self.jobs[..job].iter();
+        before.all(|line| line.counted.is_some() || !conflicts(line))
     }
 
     /// R164: whether every job has a counted report.
@@ -127,20 +190,21 @@ impl Ledger {
 }
 
 impl Line {
-    /// An accepted step. Panics where what it speaks of was never entered.
-    fn enter(&mut self, number: u8, handed: [i32; 4], report: Report) {
+    /// An accepted step, and the guess that it started, if it did. Panics where what
+    /// it speaks of was never entered.
+    fn enter(&mut self, number: u8, handed: [i32; 4], report: Report, started: Option<Guess>) {
         self.steps += 1;
         match number {
             0 => {
                 self.own = Some(handed);
                 self.guess = None;
             }
-            1 => self.guess = Some((handed, None)),
+            1 => self.guess = started,
             2 => self.count(self.own.unwrap(), report, false),
-            3 => self.guess.as_mut().unwrap().1 = Some(report),
+            3 => self.guess.as_mut().unwrap().report = Some(report),
             _ => {
-                let (handed, report) = self.guess.unwrap();
-                self.count(handed, report.unwrap(), true);
+                let guess = self.guess.as_ref().unwrap();
+                self.count(guess.handed, guess.report.unwrap(), true);
             }
         }
     }

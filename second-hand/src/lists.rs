@@ -148,6 +148,33 @@ impl Manner {
         }
     }
 
+    /// Many jobs, most of which maybe-write, so that a guess may look past many, on both
+    /// sides of job 64. Each cell comes up with a job of its own, often one about 64:
+    /// what is looked past for its sake begins there.
+    pub fn past_many(dice: &mut Dice) -> Manner {
+        let cells = dice.pick(&[1, 4, 8, 16]);
+        let writers = dice.pick(&[0, 3, 15]);
+        let mut firsts: Vec<usize> = (0..cells)
+            .map(|_| dice.pick(&[0, 0, 0, 40, 63, 64, 65]))
+            .collect();
+        // Every job has to have a cell.
+        firsts[0] = 0;
+        let many = dice.pick(&[70, 90, FULL, FULL]);
+        Manner {
+            heights: (0..cells).map(|_| height(dice)).collect(),
+            jobs: (0..many)
+                .map(|number| maybe_writer(dice, number, &firsts, writers))
+                .collect(),
+            early: dice.pick(&[0, many / 2, many]),
+            guessing: 1,
+            by_rule: false,
+            pace: dice.pick(&[10, 40]),
+            wild: dice.pick(&[0, 2]),
+            eager: dice.pick(&[40, 60, 80]),
+            writes: dice.pick(&[0, 2, 10]),
+        }
+    }
+
     /// R176: two lists that insert the same jobs into the same cells, and report by
     /// one rule. The first inserts all before it seals, the second some or all of
     /// them after. In all else they may differ.
@@ -305,6 +332,34 @@ pub fn sound_job(dice: &mut Dice, cells: usize) -> Job {
         kind: kind as u8,
         parameter: height(dice),
         arity: modes.len() as u8,
+        accesses,
+    }
+}
+
+/// An outside job on cells that come up with it, which it maybe-writes, or have come up
+/// before. Of the latter it mostly reads up to four or maybe-writes one or two; of a
+/// hundred so many are written.
+fn maybe_writer(dice: &mut Dice, number: usize, firsts: &[usize], writers: usize) -> Job {
+    let mut cells: Vec<usize> = (0..firsts.len())
+        .filter(|&cell| firsts[cell] <= number)
+        .collect();
+    dice.shuffle(&mut cells);
+    cells.sort_by_key(|&cell| firsts[cell] != number);
+    let (most, mostly) = dice.pick(&[(1, 2), (1, 2), (2, 2), (4, 0)]);
+    cells.truncate(most);
+    let mut accesses = [(0, 0); 4];
+    for (place, &cell) in cells.iter().enumerate() {
+        let mode = match firsts[cell] == number {
+            true => 2,
+            false if dice.percent(writers) => 1,
+            false => mostly,
+        };
+        accesses[place] = (cell as u8, mode);
+    }
+    Job {
+        kind: 0,
+        parameter: 0,
+        arity: cells.len() as u8,
         accesses,
     }
 }

@@ -9,7 +9,7 @@ mod setting;
 mod theirs;
 
 use hands::{add, Hands};
-use second_hand::ledger::{Ledger, Line};
+use second_hand::ledger::{Guess, Ledger, Line};
 use second_hand::lists::{sound_job, worth_a_look, Answer, Call, Manner};
 use second_hand::plans::Dice;
 use second_hand::record;
@@ -81,7 +81,7 @@ impl Morning {
         let due = |(job, line): (usize, &Line)| match line {
             Line { counted: Some(_), .. } => None,
             Line { own: Some(_), .. } => Some((2, job)),
-            Line { guess: Some((_, None)), .. } => Some((3, job)),
+            Line { guess: Some(Guess { report: None, .. }), .. } => Some((3, job)),
             _ => None,
         };
         let (number, job) = chosen.or_else(|| self.ledger.jobs.iter().enumerate().find_map(due)).expect("R172: nothing is due");
