@@ -120,12 +120,17 @@ impl Ledger {
         let Some(guess) = &self.jobs[job].guess else {
             return GuessTold::default();
         };
-        let is_open = |other: &usize| self.jobs[*other].counted.is_none();
-        let open: Vec<usize> = guess.looked_past.iter().copied().filter(is_open).collect();
         GuessTold {
             looked_past: Told::of(&guess.looked_past),
-            open: Told::of(&open),
+            open: Told::of(&self.open_of(guess)),
         }
+    }
+
+    /// Those among the jobs that the guess looked past which have no counted report.
+    pub fn open_of(&self, guess: &Guess) -> Vec<usize> {
+        let mut jobs = guess.looked_past.clone();
+        jobs.retain(|&other| self.jobs[other].counted.is_none());
+        jobs
     }
 
     /// R21: every earlier job that conflicts with it (R20) has a counted report.

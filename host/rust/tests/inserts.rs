@@ -4,11 +4,13 @@
 //! set how many, SEED=NUMBER which; it prints what was met (`cargo test --test inserts -- --nocapture`).
 
 mod hands;
+mod met;
 mod setting;
 #[allow(dead_code)] // Calls that only tests/damaged.rs makes.
 mod theirs;
 
-use hands::{add, Hands};
+use hands::Hands;
+use met::{add, print};
 use second_hand::ledger::{Guess, Ledger, Line};
 use second_hand::lists::{sound_job, worth_a_look, Answer, Call, Manner};
 use second_hand::plans::Dice;
@@ -254,11 +256,6 @@ impl Met {
         }
         self.calls += 1;
     }
-}
-
-/// Prints how often each was met.
-fn print(names: &[&str], times: &[u64]) {
-    names.iter().zip(times).for_each(|(what, times)| println!("  {what}: {times}"));
 }
 
 /// R170 to R175, R179, R181.

@@ -3,11 +3,13 @@
 //! SHARES=COUNT set how many, SEED=NUMBER which; it prints what was met (`cargo test --test tallies -- --nocapture`).
 
 mod hands;
+mod met;
 mod setting;
 #[allow(dead_code)] // Calls that only tests/damaged.rs makes.
 mod theirs;
 
-use hands::{add, Hands};
+use hands::Hands;
+use met::{add, print};
 use second_hand::lists::Manner;
 use second_hand::plans::Dice;
 use second_hand::{record, tally};
@@ -115,7 +117,7 @@ fn batches() {
         worked(&mut dice, &mut asked);
     }
     println!("{} tallies of {count} batches of seed {seed}: every one the second hand's, and in balance.", asked.times);
-    ASKED.iter().zip(asked.met).for_each(|(what, times)| println!("  {what}: {times}"));
+    print(&ASKED, &asked.met);
     println!("  guesses by kind, {}:", BECAME.join("; "));
     asked.became.iter().enumerate().for_each(|(kind, times)| println!("    kind {kind}: {times:?}"));
     assert!(asked.met.iter().all(|&times| times > 0), "something never came up: {:?}", asked.met);
@@ -307,7 +309,7 @@ fn lists() {
     }
     let [accepted, refused] = met.refused;
     println!("{count} lists of seed {seed}, accepted {accepted}, refused {refused}: every total the second hand's.");
-    ADDED.iter().zip(met.met).for_each(|(what, times)| println!("  {what}: {times}"));
+    print(&ADDED, &met.met);
     println!("  by number, {}:", LIMITS.join("; "));
     NUMBERS.iter().zip(met.limits).for_each(|(number, times)| println!("    {number}: {times:?}"));
     assert!(met.met.iter().all(|&times| times > 0), "something never came up: {:?}", met.met);
@@ -379,6 +381,6 @@ fn shares() {
         add(&mut met, share_met(tally.kept, tally.started, share));
     }
     println!("{count} kept shares of seed {seed}: every one the second hand's.");
-    SHARED.iter().zip(met).for_each(|(what, times)| println!("  {what}: {times}"));
+    print(&SHARED, &met);
     assert!(met.iter().all(|&times| times > 0), "something never came up: {met:?}");
 }

@@ -32,8 +32,3 @@ impl Hands {
         answer
     }
 }
-
-/// Adds one to the times of what was met.
-pub fn add<const COUNT: usize>(times: &mut [u64; COUNT], met: [bool; COUNT]) {
-    times.iter_mut().zip(met).for_each(|(times, did)| *times += did as u64);
-}

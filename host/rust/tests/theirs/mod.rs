@@ -1,5 +1,6 @@
 //! One record in two hands: each call is made on both, and what they answer and leave has to be the same.
 
+use second_hand::sets::{GuessTold, Told};
 use second_hand::{record, tally};
 use sorghemi::raw::*;
 use sorghemi::{Job, Record, Report, Tally};
@@ -28,6 +29,16 @@ fn read_job(job: &Job) -> record::Job {
 pub fn read_tally(tally: &Tally) -> tally::Tally {
     let Tally { jobs, started, kept, discarded: thrown_away, pending: rest } = *tally;
     tally::Tally { jobs, started, kept, thrown_away, rest }
+}
+
+/// What the second hand tells of a guess in the library's form. R78: 0 stands in the place of a lowest that is not there.
+pub fn told((refusal, GuessTold { looked_past, open }): (u8, GuessTold)) -> SpeculationAnswer {
+    let set = |Told { size, lowest }: Told| SetAnswer {
+        size: size as u8,
+        present: lowest.is_some(),
+        lowest: lowest.unwrap_or(0) as u8,
+    };
+    SpeculationAnswer { refusal, bypassed: set(looked_past), open: set(open) }
 }
 
 impl Both {
@@ -114,6 +125,12 @@ impl Both {
             "ask job {job} of {:?}",
             self.ours
         );
+        ours
+    }
+
+    pub fn ask_speculation(&self, job: usize) -> SpeculationAnswer {
+        let ours = unsafe { sorghemi_ask_speculation(self.ours, job) };
+        assert_eq!(ours, told(self.theirs.ask_looked_past(job)), "ask the guess of job {job} of {:?}", self.ours);
         ours
     }
 
