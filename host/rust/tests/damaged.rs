@@ -1,15 +1,20 @@
 //! Damaged records: bytes of valid records are changed at random, every entry is called on what comes out (and on the valid
 //! ones), and each answer and the record after it are held against the second hand's (`second_hand::record`). The same on
-//! records in form whose jobs are in any state. DAMAGED=COUNT sets how many records, SEED=NUMBER which; it prints what was met
-//! (`cargo test --test damaged -- --nocapture`).
+//! records in form whose jobs are in any state; and asking guesses that looked past any jobs. DAMAGED=COUNT sets how many records,
+//! SEED=NUMBER which; it prints what was met (`cargo test --test damaged -- --nocapture`).
 
+mod met;
+mod sets;
 mod setting;
 mod theirs;
 
+use met::{add, print};
+use sets::Sets;
 use setting::setting;
 use sorghemi::raw::{sorghemi_step_by_value, JobSet, Run, TallyAnswer};
 use sorghemi::{Batch, Job, Mode, Record, Report, Step};
 use std::collections::BTreeMap;
+use std::mem::{offset_of, size_of};
 use theirs::{read_tally, Both};
 
 /// A small generator of random numbers, the same in every run.
@@ -39,6 +44,11 @@ impl Random {
             2 => usize::MAX - self.below(2),
             _ => self.below(limit.max(1)),
         }
+    }
+
+    /// 128 bits.
+    fn bits(&mut self) -> u128 {
+        (0..4).fold(0, |bits, _| bits << 32 | self.below(1 << 32) as u128)
     }
 
     fn report(&mut self) -> Report {
@@ -85,8 +95,13 @@ impl Random {
 fn valid_record(random: &mut Random) -> Record {
     let cells = if random.one_in(10) { 64 } else { 1 + random.below(6) };
     let heights: Vec<i32> = (0..cells).map(|_| random.height()).collect();
-    let mut batch = Batch::open(&heights).unwrap();
     let jobs = if random.one_in(20) { 128 } else { random.below(24) };
+    worked_record(&heights, jobs, random)
+}
+
+fn worked_record(heights: &[i32], jobs: usize, random: &mut Random) -> Record {
+    let mut batch = Batch::open(heights).unwrap();
+    let cells = heights.len();
     for _ in 0..jobs {
         let _ = batch.insert(random.job(cells));
     }
@@ -118,7 +133,6 @@ fn valid_record(random: &mut Random) -> Record {
 
 /// A byte of the record at random: of any place, or of a place in use, where it matters.
 fn place(record: &Record, random: &mut Random) -> usize {
-    use std::mem::{offset_of, size_of};
     let job = random.below(record.job_count.max(1) as usize);
     match random.below(8) {
         0 | 1 => random.below(Record::SIZE),
@@ -132,7 +146,7 @@ fn place(record: &Record, random: &mut Random) -> usize {
 }
 
 /// The record with one to three of its bytes changed: to another number in its list, to any number, or in one bit.
-fn damaged(record: &Record, random: &mut Random) -> Record {
+fn damaged(record: &Record, random: &mut Random, place: fn(&Record, &mut Random) -> usize) -> Record {
     let mut bytes = record.to_bytes();
     for _ in 0..1 + random.below(3) {
         let byte = &mut bytes[place(record, random)];
@@ -245,6 +259,11 @@ impl Met {
         answer
     }
 
+    /// Asks both hands for the guesses of some jobs.
+    fn ask_speculations(&mut self, both: &Both, jobs: impl IntoIterator<Item = usize>) {
+        jobs.into_iter().for_each(|job| self.answer("ask speculation", both.ask_speculation(job).refusal));
+    }
+
     /// The tally of a record that somebody wrote into: what came up of TALLIES, by its place there.
     fn made_up(&mut self, answer: TallyAnswer) {
         if answer.refusal == 0 {
@@ -301,23 +320,23 @@ impl Met {
         }
     }
 
-    fn print(&self) {
+    fn print_answers(&self) {
         println!("Answers met:");
         for ((entry, answer), times) in &self.answers {
             println!("  {entry} {answer}: {times}");
         }
+    }
+
+    fn print(&self) {
+        self.print_answers();
         println!("Of jobs with four accesses:");
-        for (what, times) in FOUR.iter().zip(self.four) {
-            println!("  {what}: {times}");
-        }
+        print(&FOUR, &self.four);
         println!("Guesses of jobs not settled, and of settled ones:");
         for (what, times) in JUDGED.iter().zip(self.judged) {
             println!("  {what}: {} and {}", times[0], times[1]);
         }
         println!("Tallies of records in form that were written into:");
-        for (what, times) in TALLIES.iter().zip(self.tallies) {
-            println!("  {what}: {times}");
-        }
+        print(&TALLIES, &self.tallies);
     }
 }
 
@@ -350,8 +369,18 @@ fn try_every_entry(record: &Record, random: &mut Random, met: &mut Met) -> Tally
     // Every job, on the record and on what the steps have left of it.
     for both in [Both::of(record), both] {
         (0..held).for_each(|job| met.ask_job(&both, job));
+        met.ask_speculations(&both, 0..held);
+        met.ask_speculations(&both, about_the_limits(record, random));
     }
     tally
+}
+
+/// Numbers that a job may just have, or just not have, and some at random. The generator is copied, so that what comes after
+/// does not depend on how many these are.
+fn about_the_limits(record: &Record, random: &Random) -> [usize; 13] {
+    let (held, mut random) = (record.job_count as usize, Random(random.0));
+    let any = [(); 3].map(|()| random.around(300));
+    [0, held.wrapping_sub(1), held, held + 1, 127, 128, 255, 256 + held, 1 << 32, usize::MAX, any[0], any[1], any[2]]
 }
 
 /// How many records, and the seed.
@@ -371,7 +400,7 @@ fn damaged_records_are_refused_or_answered_soundly() {
             let whole = try_every_entry(&valid, &mut random, &mut met);
             assert!(whole.refusal == 0 && read_tally(&whole.tally).in_balance(), "R177: {whole:?}");
         }
-        let record = damaged(&valid, &mut random);
+        let record = damaged(&valid, &mut random, place);
         let answer = try_every_entry(&record, &mut random, &mut met);
         met.made_up(answer);
     }
@@ -407,4 +436,138 @@ fn jobs_in_any_state_are_answered_soundly() {
     met.inserts_came_up();
     assert!(met.judged.iter().flatten().all(|&times| times > 0), "no guess was judged so: {:?}", met.judged);
     assert!(met.tallies.iter().all(|&times| times > 0), "no tally was so: {:?}", met.tallies);
+}
+
+/// Sets of jobs at the edges of two words. Each has to come up as what a guess looked past.
+const EDGES: [(&str, u128); 8] = [
+    ("no jobs", 0),
+    ("job 0", 1),
+    ("job 63", 1 << 63),
+    ("job 64", 1 << 64),
+    ("job 126", 1 << 126),
+    ("jobs 63 and 64", 3 << 63),
+    ("jobs 0 and 126", 1 | 1 << 126),
+    ("jobs 0 to 126", (1 << 127) - 1),
+];
+
+/// A set of jobs before this one: one of EDGES, some of which only the last job can have; few, many, or those of one word alone.
+fn any_set(job: usize, random: &mut Random) -> u128 {
+    let bits = random.bits();
+    let set = match random.below(6) {
+        kind if kind < 2 || job == 127 => EDGES[random.below(EDGES.len())].1,
+        2 => bits & random.bits() & random.bits() & random.bits(),
+        3 => bits,
+        4 => bits >> 64,
+        _ => bits >> 64 << 64,
+    };
+    // Only jobs before it, or the record would be out of form.
+    set & ((1 << job) - 1)
+}
+
+/// The record with any jobs looked past; the guesses mostly out or stored, and few jobs, many or all settled.
+fn any_sets(record: &Record, random: &mut Random) -> Record {
+    let mut record = *record;
+    let settled = random.below(5);
+    for job in 0..record.job_count as usize {
+        let set = any_set(job, random);
+        record.runs[job].bypassed = JobSet { low: set as u64, high: (set >> 64) as u64 };
+        record.phase[job] = [0, 1, 1, 2, 2, 3][random.below(6)];
+        record.committed[job] = if random.below(4) < settled { 1 + random.below(2) as u8 } else { 0 };
+    }
+    record
+}
+
+/// A byte that asking a guess looks at: of the jobs looked past, often the one with the bit of the job itself.
+fn place_of_a_guess(record: &Record, random: &mut Random) -> usize {
+    let job = random.below(record.job_count.max(1) as usize);
+    let set = offset_of!(Record, runs) + job * size_of::<Run>() + offset_of!(Run, bypassed);
+    match random.below(7) {
+        0 => offset_of!(Record, job_count),
+        1 => offset_of!(Record, committed) + job,
+        2 => offset_of!(Record, phase) + job,
+        3 => set + job / 8,
+        _ => set + random.below(16),
+    }
+}
+
+/// How a job may stand that has looked past some by what its run says. Each has to come up of jobs below 64 and of others.
+const PAST: [&str; 5] = [
+    "the guess never started",
+    "the guess thrown away",
+    "out or stored, the job not settled",
+    "out or stored, the job settled by its own run",
+    "out or stored, the job settled by its guess",
+];
+
+/// What was met of guesses in records in form.
+#[derive(Default)]
+struct Guesses {
+    past: [[u64; PAST.len()]; 2],
+    edges: [u64; EDGES.len()],
+    sets: Sets,
+}
+
+impl Guesses {
+    fn count(&mut self, record: &Record, job: usize) {
+        let JobSet { low, high } = record.runs[job].bypassed;
+        let set = u128::from(low) | u128::from(high) << 64;
+        let (phase, committed) = (record.phase[job], record.committed[job] as usize);
+        let live = phase == 1 || phase == 2;
+        let place = if live { 2 + committed } else { (phase == 3) as usize };
+        self.past[(job >= 64) as usize][place] += (set != 0) as u64;
+        if live {
+            add(&mut self.edges, EDGES.map(|(_, edge)| edge == set));
+            let mut jobs: Vec<usize> = (0..128).filter(|other| set >> other & 1 == 1).collect();
+            let past = jobs.clone();
+            jobs.retain(|&other| record.committed[other] == 0);
+            self.sets.count(&past, &jobs);
+        }
+    }
+
+    fn print(&self) {
+        println!("Jobs that have looked past some, below 64 and others:");
+        for (what, (below, others)) in PAST.iter().zip(self.past[0].iter().zip(self.past[1])) {
+            println!("  {what}: {below} and {others}");
+        }
+        println!("Looked past by a guess:");
+        print(&EDGES.map(|(what, _)| what), &self.edges);
+        self.sets.print();
+    }
+
+    fn came_up(&self) {
+        assert!(self.past.iter().flatten().all(|&times| times > 0), "no job stood so: {:?}", self.past);
+        assert!(self.edges.iter().all(|&times| times > 0), "such a set was never looked past: {:?}", self.edges);
+        self.sets.came_up();
+    }
+}
+
+/// R78, R79: on records of many jobs with any jobs looked past, as they are and damaged. A quarter as many as of damaged ones.
+#[test]
+fn guesses_that_looked_past_any_jobs() {
+    let (count, seed) = settings();
+    let mut random = Random(seed.wrapping_mul(0x9e3779b97f4a7c15) | 1);
+    let (mut met, mut guesses) = (Met::default(), Guesses::default());
+    for _ in 0..count.div_ceil(4) {
+        let jobs = [1, 24, 63, 64, 65, 100, 127, 128, 128, 128][random.below(10)];
+        let valid = worked_record(&[0; 6], jobs, &mut random);
+        let any = any_sets(&valid, &mut random);
+        for record in [valid, any, damaged(&any, &mut random, place_of_a_guess)] {
+            let both = Both::of(&record);
+            met.ask_speculations(&both, about_the_limits(&record, &random));
+            if both.ask_batch().refusal == 0 {
+                (0..record.job_count as usize).for_each(|job| guesses.count(&record, job));
+                met.ask_speculations(&both, 0..record.job_count as usize);
+            }
+        }
+    }
+    println!(
+        "{} times three records of seed {seed} with any jobs looked past: every answer the second hand's.",
+        count.div_ceil(4)
+    );
+    met.print_answers();
+    guesses.print();
+    for answer in [0, 11, 32] {
+        assert!(met.answers.contains_key(&("ask speculation", answer)), "never answered {answer}");
+    }
+    guesses.came_up();
 }
