@@ -1,6 +1,9 @@
 //! The wrapper over the archive: batches run to their end, every refusal that a caller can meet, and the record kept.
 
-use sorghemi::{answer, Batch, Choice, Committed, Job, JobState, Kind, Mode, Phase, Record, Refusal, Report, Step, Validity};
+use sorghemi::{
+    answer, Batch, Choice, Committed, Job, JobState, Jobs, Kind, Mode, Phase, Record, Refusal, Report, Speculation, Step,
+    Validity,
+};
 
 /// A small generator of random numbers, the same in every run.
 struct Random(u64);
@@ -129,6 +132,63 @@ fn a_job_tells_how_it_stands_at_each_step() {
     assert_eq!(told(&found_something, 2), (Committed::NotYet, false, false, Phase::Out, Validity::Invalid));
     found_something.start_own(1).unwrap();
     assert_eq!(told(&found_something, 1), (Committed::NotYet, false, true, Phase::Discarded, Validity::NoRun));
+}
+
+/// Of the jobs looked past and of the open ones size and lowest.
+fn told(bypassed: (usize, Option<usize>), open: (usize, Option<usize>)) -> Result<Speculation, Refusal> {
+    let [bypassed, open] = [bypassed, open].map(|(size, lowest)| Jobs { size, lowest });
+    Ok(Speculation { bypassed, open })
+}
+
+/// P13 of docs/RULES.md.
+#[test]
+fn a_guess_tells_what_it_looked_past() {
+    let jobs = [Job::floor(0, 1400), Job::floor(1, 1400), Job::pair(0, 1), Job::mean(2, 0, 1)];
+    let mut batch = sealed(&[1500, 1480, 0], &jobs);
+    let (none, three) = ((0, None), (3, Some(0)));
+    assert_eq!(batch.speculation(3), told(none, none));
+    batch.start_speculation(3).unwrap();
+    assert_eq!(batch.speculation(3), told(three, three));
+    for (job, open) in [(0, (2, Some(1))), (1, (1, Some(2))), (2, none)] {
+        let handed = batch.start_own(job).unwrap();
+        let report = jobs[job].result(handed).unwrap();
+        assert_eq!(report.wrote, (job == 2) as u8);
+        batch.report_own(job, report).unwrap();
+        assert_eq!(batch.speculation(3), told(three, open));
+    }
+    assert_eq!(batch.job(3).unwrap().validity, Validity::Invalid);
+    batch.start_own(3).unwrap();
+    assert_eq!(batch.speculation(3), told(none, none));
+    assert_eq!(batch.speculation(4), Err(Refusal::NO_SUCH_JOB));
+}
+
+/// R79: before the seal too, and of a guess that is kept. R78: a lowest that is job 0 is one, and only an empty set has none.
+#[test]
+fn only_an_empty_set_has_no_lowest() {
+    let mut batch = Batch::open(&[1500]).unwrap();
+    assert_eq!(batch.speculation(0), Err(Refusal::NO_SUCH_JOB));
+    for job in 0..66 {
+        batch.insert(Job::floor(0, 1400)).unwrap();
+        assert_eq!(batch.speculation(job), told((0, None), (0, None)));
+    }
+    batch.seal(true).unwrap();
+    for job in 1..66 {
+        batch.start_speculation(job).unwrap();
+        assert_eq!(batch.speculation(job), told((job, Some(0)), (job, Some(0))));
+    }
+    batch.start_own(0).unwrap();
+    batch.report_own(0, Report::default()).unwrap();
+    for settled in 1..66 {
+        batch.report_speculation(settled, Report::default()).unwrap();
+        assert_eq!(batch.speculation(settled), told((settled, Some(0)), (0, None)));
+        batch.commit(settled).unwrap();
+        for job in 1..66 {
+            let open = if job > settled + 1 { (job - settled - 1, Some(settled + 1)) } else { (0, None) };
+            assert_eq!(batch.speculation(job), told((job, Some(0)), open), "job {job}, up to {settled} settled");
+        }
+    }
+    assert_eq!(batch.speculation(66), Err(Refusal::NO_SUCH_JOB));
+    assert_eq!(batch.speculation(usize::MAX), Err(Refusal::NO_SUCH_JOB));
 }
 
 #[test]
