@@ -380,7 +380,7 @@ fn try_every_entry(record: &Record, random: &mut Random, met: &mut Met) -> Tally
 fn about_the_limits(record: &Record, random: &Random) -> [usize; 13] {
     let (held, mut random) = (record.job_count as usize, Random(random.0));
     let any = [(); 3].map(|()| random.around(300));
-    [0, held.wrapping_sub(1), held, held + 1, 127, 128, 255, 256 + held, 1 << 32, usize::MAX, any[0], any[1], any[2]]
+    [0, held.wrapping_sub(1), held, held + 1, 127, 128, 255, 256, 1 << 32, usize::MAX, any[0], any[1], any[2]]
 }
 
 /// How many records, and the seed.

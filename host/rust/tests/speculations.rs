@@ -115,9 +115,10 @@ impl Met {
         for SetAnswer { size, present, lowest } in [answer.bypassed, answer.open] {
             assert!(present == (size > 0) && (present || lowest == 0), "R78: {answer:?}");
         }
-        if answer.open.size > 0 {
-            assert!(!ledger.is_ready(job), "R184: job {job} of {ledger:?}");
-            assert_ne!(hands.both.ask_job(job).validity, 2, "R184: job {job} of {ledger:?}");
+        if answer.bypassed.size > 0 {
+            let (ready, judged) = (ledger.is_ready(job), hands.both.ask_job(job).validity);
+            assert!(!ready || answer.open.size == 0, "R184: job {job} of {ledger:?}");
+            assert!(judged == 3 || (judged == 2) == ready, "R45: job {job} of {ledger:?} is judged {judged}");
         }
         self.asked += 1;
     }
