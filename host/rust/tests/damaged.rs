@@ -90,8 +90,7 @@ impl Random {
     }
 }
 
-/// A valid record somewhere on its way: some cells and jobs, mostly sealed, after some steps of the chooser and some reports.
-/// Guesses are reported before own runs half of the time, and mostly not settled at once, so that guesses stand on guesses.
+/// A valid record somewhere on its way, with some cells and jobs.
 fn valid_record(random: &mut Random) -> Record {
     let cells = if random.one_in(10) { 64 } else { 1 + random.below(6) };
     let heights: Vec<i32> = (0..cells).map(|_| random.height()).collect();
@@ -99,6 +98,8 @@ fn valid_record(random: &mut Random) -> Record {
     worked_record(&heights, jobs, random)
 }
 
+/// One with these heights and so many jobs: mostly sealed, after some steps of the chooser and some reports. Guesses are
+/// reported before own runs half of the time, and mostly not settled at once, so that guesses stand on guesses.
 fn worked_record(heights: &[i32], jobs: usize, random: &mut Random) -> Record {
     let mut batch = Batch::open(heights).unwrap();
     let cells = heights.len();
