@@ -2,14 +2,16 @@
 //! refusals, a morning in which all that can be is looked past, and R183 and R184 on
 //! random lists of calls.
 
+mod worked;
+
 use std::collections::BTreeSet;
 
 use second_hand::engine::Batch;
-use second_hand::ledger::Ledger;
 use second_hand::lists::{worth_a_look, Call, Manner};
 use second_hand::plans::Dice;
 use second_hand::record::{Job, Record};
 use second_hand::sets::{GuessTold, Told};
+use worked::Worked;
 
 fn told(size: usize, lowest: Option<usize>) -> Told {
     Told { size, lowest }
@@ -228,29 +230,7 @@ fn batch_of(record: &Record) -> Batch {
 // ---------------------------------------------------------------------------
 // On the way
 
-/// One batch on both implementations, and its ledger.
-struct Worked {
-    record: Record,
-    batch: Batch,
-    ledger: Ledger,
-}
-
 impl Worked {
-    fn open(heights: &[i32]) -> Worked {
-        Worked {
-            record: Record::open(heights).unwrap(),
-            batch: Batch::open(heights).unwrap(),
-            ledger: Ledger::open(heights),
-        }
-    }
-
-    fn make(&mut self, call: &Call) -> u8 {
-        let answer = call.on_record(&mut self.record);
-        assert_eq!(call.on_batch(&mut self.batch), answer, "{call:?}");
-        self.ledger.enter(call, answer);
-        answer.0
-    }
-
     fn step(&mut self, number: u8, job: usize) {
         let call = Call::Step {
             number,
@@ -258,7 +238,7 @@ impl Worked {
             values: [0; 4],
             mark: 0,
         };
-        assert_eq!(self.make(&call), 0, "{call:?}");
+        assert_eq!(self.make(&call).0, 0, "{call:?}");
     }
 
     /// R183: all three tell the same. R184: while some are open, it is not ready.
@@ -281,9 +261,9 @@ impl Worked {
 fn all_that_can_be_looked_past() {
     let mut worked = Worked::open(&[0]);
     for _ in 0..128 {
-        assert_eq!(worked.make(&Call::Insert(job(&[(0, 2)]))), 0);
+        assert_eq!(worked.make(&Call::Insert(job(&[(0, 2)]))).0, 0);
     }
-    assert_eq!(worked.make(&Call::Seal(1)), 0);
+    assert_eq!(worked.make(&Call::Seal(1)).0, 0);
     worked.step(1, 127);
     worked.step(3, 127);
     for open in 0..127 {
@@ -310,9 +290,9 @@ fn nothing_looked_past() {
     // other cell a reader, and a writer.
     let jobs = [(0, 2), (0, 1), (0, 0), (1, 0), (1, 1)].map(|access| job(&[access]));
     for job in jobs {
-        assert_eq!(worked.make(&Call::Insert(job)), 0);
+        assert_eq!(worked.make(&Call::Insert(job)).0, 0);
     }
-    assert_eq!(worked.make(&Call::Seal(1)), 0);
+    assert_eq!(worked.make(&Call::Seal(1)).0, 0);
     worked.step(1, 1);
     assert_eq!(worked.told(1), both((1, Some(0)), (1, Some(0))));
     worked.step(3, 1);

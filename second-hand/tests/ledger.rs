@@ -2,35 +2,19 @@
 //! anywhere. Of R170 it is tried that `record` and `engine` answer alike; all else
 //! is held against the ledger, which is kept from the calls alone.
 
-use second_hand::engine::{Batch, Settled};
-use second_hand::ledger::Ledger;
+mod worked;
+
+use second_hand::engine::Settled;
 use second_hand::lists::{worth_a_look, Manner};
 use second_hand::plans::Dice;
-use second_hand::record::Record;
-
-/// One batch on both implementations, and its ledger.
-struct Worked {
-    record: Record,
-    batch: Batch,
-    ledger: Ledger,
-}
+use worked::Worked;
 
 impl Worked {
-    fn open(heights: &[i32]) -> Worked {
-        Worked {
-            record: Record::open(heights).unwrap(),
-            batch: Batch::open(heights).unwrap(),
-            ledger: Ledger::open(heights),
-        }
-    }
-
     /// Makes the list's next call, and tries the claim after it.
     fn go_on(&mut self, dice: &mut Dice, manner: &Manner) {
         let call = manner.call(dice, &self.record);
         let before = (self.record.clone(), self.batch.clone());
-        let answer = call.on_record(&mut self.record);
-        assert_eq!(call.on_batch(&mut self.batch), answer, "{call:?}");
-        self.ledger.enter(&call, answer);
+        let answer = self.make(&call);
         if answer.0 != 0 {
             // R81: a refused call changes nothing.
             assert!((&self.record, &self.batch) == (&before.0, &before.1));
