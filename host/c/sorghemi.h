@@ -289,8 +289,8 @@ extern "C" {
 #endif
 
 /* The library. Refusals: open 1; insert 3 to 8; seal 2, 9; a step 10 to 18, and 21 for a number above 4; choose 10, 19;
- * ask_cell 5; ask_job and ask_speculation 11; copy_out 20; total 23; and of the calls that take a record, before all others, 32 where it is out
- * of form. */
+ * ask_cell 5; ask_job and ask_speculation 11; copy_out 20; total 23; and of the calls that take a record, before all
+ * others, 32 where it is out of form. */
 sorghemi_answer sorghemi_open(const int32_t *heights, size_t count);
 sorghemi_answer sorghemi_insert(sorghemi_batch batch, sorghemi_job job);
 sorghemi_answer sorghemi_seal(sorghemi_batch batch, uint8_t guessing);
