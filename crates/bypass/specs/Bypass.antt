@@ -6,11 +6,9 @@ use mathlib.Core.List.{List}
 use mathlib.Core.Option.{Option, none, some}
 use lib.Dec.{eqb}
 use lib.ListN.{getD}
-use Rattle.laws.specs.Fold.{countBelow}
-use Rattle.laws.specs.Search.{leastBelow}
 use Rattle.dependence.specs.Ready.{isCommitted}
 use Rattle.jobset.specs.declared.JobSet.{JobSet}
-use Rattle.jobset.specs.JobSet.{emptySet, hasJob}
+use Rattle.jobset.specs.JobSet.{emptySet, hasJob, countJobs, leastJob}
 use Rattle.rules.specs.Snapshot.{isLive}
 use Rattle.engine.specs.declared.Batch.{Batch}
 use Rattle.engine.specs.Record.{runAt}
@@ -29,7 +27,7 @@ shownSet size none = record { size = size; present = false; lowest = 0 }
 
 -- What is told of the jobs that satisfy p: how many there are, and the least of them.
 abbrev pub toldOf : (ℕ → Bool) → SetAnswer
-toldOf p = shownSet (countBelow 128 p) (leastBelow 128 p)
+toldOf p = shownSet (countJobs p) (leastJob p)
 
 -- The jobs that a guess in the phase looked past: none where there is no guess, which is neither out nor stored.
 abbrev pub bypassedIn : JobSet → ℕ → JobSet

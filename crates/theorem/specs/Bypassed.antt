@@ -32,7 +32,7 @@ use Rattle.claims.specs.Trace.{eventsOf, ledgerAfter}
 use Rattle.claims.specs.Bypassed.{isBypassed, isOpen, GuessToldStatement}
 use Rattle.model.specs.Cases.{below-or}
 use Rattle.theorem.specs.Update.{at-or, update-same, update-other}
-use Rattle.theorem.specs.Faithful.{Faithful, faithful-form, stage-phase, stage-committed}
+use Rattle.theorem.specs.Faithful.{Faithful, faithful-form, bypassed-earlier, stage-phase, stage-committed}
 use Rattle.theorem.specs.Right.{Sound}
 use Rattle.theorem.specs.Always.{call-sound, opened-sound, sound-always}
 
@@ -117,7 +117,7 @@ enter-conflicts {b} {l} agree past (insert job) handed j i e =
     let nothing : n ≤ j → isBypassed l j i ≡ false =
     λ h. ap (λ (entry : Entry). guessBypassed (entry .guess) i) (agree .nothing-beyond j h) in
     let j-held : j < n = below-or j n (λ h. h) (λ h. clash e (nothing h)) in
-    let i-before : i < j = below-or i j (λ h. h) (λ h. clash e (agree .job-is j .bypassed-before i h)) in
+    let i-before = bypassed-earlier agree j i e in
     rw (update-other (l .job) n job i (λ q. omega arith), update-other (l .job) n job j (λ q. omega arith)) (past j i e)
 enter-conflicts agree past (seal switch) handed j i e = past j i e
 enter-conflicts {b} {l} agree past (startOwn k) handed j i e =
@@ -146,9 +146,8 @@ open-waits : {b : Batch} {l : Ledger} → Faithful b l → PastConflicts l → (
 unfolding isReady
 open-waits {b} {l} agree past j i e =
     let looked = and-left (isBypassed l j i) _ e in
-    let before : i < j = below-or i j (λ h. h) (λ h. clash looked (agree .job-is j .bypassed-before i h)) in
     ap not
-    (any-found j i (waits (snapshotOfLedger l) j) before (rw (and-right (isBypassed l j i) _ e) (past j i looked)))
+    (any-found j i (waits (snapshotOfLedger l) j) (bypassed-earlier agree j i looked) (rw (and-right (isBypassed l j i) _ e) (past j i looked)))
 
 pub guess-told : GuessToldStatement
 guess-told heights calls e =

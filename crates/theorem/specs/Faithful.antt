@@ -9,7 +9,7 @@ use lib.Dec.{eqb}
 use lib.IntN.{ℤ}
 use lib.ListN.{length, getD}
 use borrow.Author.Tests.{ne-eqb, le-ltb}
-use Rattle.laws.specs.SearchLaws.{any-absent}
+use Rattle.laws.specs.SearchLaws.{any-absent, clash}
 use Rattle.laws.specs.Fold.{flag}
 use Rattle.laws.specs.FoldLaws.{flag-limit}
 use Rattle.dependence.specs.declared.Job.{Job}
@@ -19,6 +19,7 @@ use Rattle.admission.specs.Admission.{jobRefusal}
 use Rattle.jobset.specs.JobSet.{hasJob}
 use Rattle.jobset.specs.JobSetLaws.{not-reaches}
 use Rattle.rules.specs.Values.{storedValues}
+use Rattle.model.specs.Cases.{below-or}
 use Rattle.engine.specs.declared.Run.{Run}
 use Rattle.engine.specs.declared.Batch.{Batch}
 use Rattle.engine.specs.Record.{runAt, snapshotOf}
@@ -193,6 +194,10 @@ module _ {b : Batch} {l : Ledger} (agree : Faithful b l) where
         not-reaches (runAt b j .bypassed) j
             (λ i h. agree .job-is j .bypassed-are i ∙ agree .job-is j .bypassed-before i h),
       )
+
+  -- A job that was looked past is an earlier one.
+  pub bypassed-earlier : (j i : ℕ) → guessBypassed (l .entry j .guess) i ≡ true → i < j
+  bypassed-earlier j i past = below-or i j (λ h. h) (λ h. clash past (agree .job-is j .bypassed-before i h))
 
   -- What is held of a job is in form.
   job-in : (j : ℕ) → j < b .«job_count» → jobOut b j ≡ false

@@ -19,13 +19,13 @@ use Rattle.rules.specs.Snapshot.{Snapshot, isDiscarded, isLive}
 use Rattle.rules.specs.Speculation.{waits, isReady, sourceLost, invalidBelow, isInvalid}
 use Rattle.engine.specs.declared.Batch.{Batch}
 use Rattle.engine.specs.InvalidPass.{judged-list}
-use Rattle.model.specs.Cases.{below-or, none-some}
+use Rattle.model.specs.Cases.{none-some}
 use Rattle.model.specs.State.{Use, absent, reads, writes, maybe, names, usesConflict}
 use Rattle.model.specs.State.{Origin, discarded, originOf, Ready, Invalid, bypassed-wrote, source-discarded, source-invalid}
 use Rattle.model.specs.StateLaws.{written-named}
 use Rattle.claims.specs.Ledger.{GuessEntry, never, entered, reported, struck, Ledger}
 use Rattle.claims.specs.Ledger.{isCounted, countedMark, guessPhase, guessBypassed, guessSource, snapshotOfLedger}
-use Rattle.theorem.specs.Faithful.{Faithful}
+use Rattle.theorem.specs.Faithful.{Faithful, bypassed-earlier}
 use Rattle.theorem.specs.View.{useOfMode, useOf, originFor, speculationOf, stateOf, progress-committed}
 use Rattle.theorem.specs.View.{progress-marked, mode-may-write}
 use Rattle.theorem.specs.View.{place-of, NumberAt, source-place}
@@ -136,7 +136,7 @@ module _ {b : Batch} {l : Ledger} (agree : Faithful b l) (cells : List ℤ) wher
       → countedMark (l .entry i .counted) ≡ true → isInvalid (snapshotOfLedger l) j ≡ true
   unfolding isInvalid
   fallen-by-mark j i live past mark =
-      let h : i < j = below-or i j (λ h. h) (λ h. clash past (agree .job-is j .bypassed-before i h)) in
+      let h = bypassed-earlier agree j i past in
       rw live
       (or-first _ _
       (any-found j i (λ i. guessBypassed (l .entry j .guess) i && countedMark (l .entry i .counted)) h (rw (past, mark))))

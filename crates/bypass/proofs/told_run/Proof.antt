@@ -1,9 +1,12 @@
 -- `told_run` meets its contract.
 use mathlib.Core.Logic.{⊎-elim}
-use mathlib.Core.Path.{_≡_, _∙_}
+use mathlib.Core.Path.{_≡_, ap, _∙_}
 use denote.Ref.{now}
 use borrow.Author.Needs.{needs}
-use Rattle.bypass.specs.Bypass.{bypassedIn}
+use Rattle.jobset.specs.declared.JobSet.{JobSet}
+use Rattle.jobset.specs.JobSet.{hasJob}
+use Rattle.rules.specs.Snapshot.{isLive}
+use Rattle.bypass.specs.Bypass.{toldOf, bypassedIn, openAt}
 use Rattle.bypass.specs.BypassLaws.{told-same, has-open}
 use Rattle.bypass.proofs.told_run.Statement.{statement}
 use Rattle.bypass.proofs.told_run.Tie as tie
@@ -28,11 +31,19 @@ returns c =
     let opened = c .before .before in
     let m = opened .before in
     let a = m .before .before .before .args in
+    let live : m .before .is-live .result ≡ isLive (a .phase) = m .before .is-live .ensures in
     let known : m .if1 .known ≡ bypassedIn (a .bypassed) (a .phase) =
-    ⊎-elim (λ h. h .1 ∙ rw (← m .before .is-live .ensures, h .0 .taken))
-    (λ h. h .1 ∙ m .before .before .empty .ensures ∙ rw (← m .before .is-live .ensures, h .0 .left))
+    ⊎-elim (λ h. h .1 ∙ rw (← live, h .0 .taken))
+    (λ h. h .1 ∙ m .before .before .empty .ensures ∙ rw (← live, h .0 .left))
     (m .if1 .came) in
-    rw (c .told2 .ensures, c .before .told .ensures, opened .open-in .ensures, known, told-same _ _ (has-open (bypassedIn (a .bypassed) (a .phase)) (now (a .committed))))
+    let past : c .before .told .result ≡ toldOf (hasJob (bypassedIn (a .bypassed) (a .phase))) =
+    rw (← known) (c .before .told .ensures) in
+    let left : c .told2 .result ≡ toldOf (openAt (bypassedIn (a .bypassed) (a .phase)) (now (a .committed))) =
+    c .told2 .ensures
+    ∙ ap (λ (set : JobSet). toldOf (hasJob set)) (opened .open-in .ensures)
+    ∙ told-same _ _ (has-open (m .if1 .known) (now (a .committed)))
+    ∙ ap (λ (set : JobSet). toldOf (openAt set (now (a .committed)))) known in
+    rw (past, left)
 
 pub told-run-spec : {M : Type 1} → statement M
 told-run-spec =
