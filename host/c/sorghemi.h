@@ -56,9 +56,9 @@ enum { /* the state of a job's guess (R40) */
 };
 
 enum { /* how a job's guess is judged (R45) */
-    SORGHEMI_VALIDITY_NO_RUN = 0,    /* there is none out or stored */
-    SORGHEMI_VALIDITY_UNDECIDED = 1, /* it is not yet to be judged */
-    SORGHEMI_VALIDITY_VALID = 2,     /* it stands */
+    SORGHEMI_VALIDITY_NO_RUN = 0,    /* there is none to judge: none is out or stored, or the job is settled */
+    SORGHEMI_VALIDITY_UNDECIDED = 1, /* it is not yet to be judged: the job is not ready */
+    SORGHEMI_VALIDITY_VALID = 2,     /* it stands: it was handed the present heights */
     SORGHEMI_VALIDITY_INVALID = 3,   /* it has fallen: it will never be settled, and its worker can give it up */
 };
 
@@ -79,7 +79,7 @@ enum { /* how a job's guess is judged (R45) */
     ROW(13, WRONG_STATE, "the job is not in the state for this step") \
     ROW(14, JOB_READY, "the job is ready: it needs no guess") \
     ROW(15, MUST_WAIT, \
-        "an earlier job that this one waits for is not settled, or has no report that stands to take a value from") \
+        "an earlier job that this one waits for is not settled, or has no stored report to take a value from") \
     ROW(16, WRONG_MARK, "a mark is 0 or 1, and 1 only from a job that maybe-writes") \
     ROW(17, GUESS_STANDS, "the job's guess stands: report or settle it") \
     ROW(18, GUESS_FALLEN, "the guess has fallen") \

@@ -110,13 +110,13 @@ named_numbers! {
 named_numbers! {
     /// How a job's guess is judged (R45). What is [`Invalid`](Validity::Invalid) stays so until it is thrown away.
     Validity {
-        /// There is no guess to judge: none is out or stored.
+        /// There is no guess to judge: none is out or stored, or the job is settled.
         NoRun = 0,
-        /// It is not yet to be judged: it has not fallen, and an earlier job that its own waits for is not settled.
+        /// It is not yet to be judged: an earlier job that its own waits for is not settled.
         Undecided = 1,
-        /// It stands: with its report it can be settled.
+        /// It stands: it was handed the heights that its cells hold, and with its report it can be settled.
         Valid = 2,
-        /// It has fallen: it will never be settled, and its worker can give it up.
+        /// It has fallen: it was handed another height. It will never be settled, and its worker can give it up.
         Invalid = 3,
     }
 }

@@ -59,7 +59,7 @@ refusals! {
     12 GUESSING_OFF "guessing is off"
     13 WRONG_STATE "the job is not in the state for this step"
     14 JOB_READY "the job is ready: it needs no guess"
-    15 MUST_WAIT "an earlier job that this one waits for is not settled, or has no report that stands to take a value from"
+    15 MUST_WAIT "an earlier job that this one waits for is not settled, or has no stored report to take a value from"
     16 WRONG_MARK "a mark is 0 or 1, and 1 only from a job that maybe-writes"
     17 GUESS_STANDS "the job's guess stands: report or settle it"
     18 GUESS_FALLEN "the guess has fallen"
