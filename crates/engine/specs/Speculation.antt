@@ -1,6 +1,6 @@
 -- The tests on speculative runs as the code makes them, on the record's columns, and that they are the rules'.
 use Prim.Native.Nat.{ℕ, _-_, _<_, _≤_}
-use mathlib.Core.Bool.{Bool, false, cond, not, _&&_, _||_}
+use mathlib.Core.Bool.{Bool, false, cond, not, _&&_}
 use mathlib.Core.List.{List}
 use lib.Dec.{eqb}
 use lib.IntN.{ℤ}
@@ -8,41 +8,23 @@ use lib.ListN.{getD}
 use Rattle.laws.specs.Search.{anyBelow}
 use Rattle.dependence.specs.declared.Job.{Job}
 use Rattle.dependence.specs.Job.{accessAt, jobAt}
-use Rattle.dependence.specs.Ready.{isCommitted}
-use Rattle.jobset.specs.declared.JobSet.{JobSet}
-use Rattle.jobset.specs.JobSet.{withJob, meetsWith}
-use Rattle.rules.specs.Values.{valueAt, valueFor}
-use Rattle.rules.specs.Snapshot.{isStored, isDiscarded, isLive}
+use Rattle.rules.specs.Values.{valueAt, valueFor, isStale}
+use Rattle.rules.specs.Snapshot.{isStored, isLive}
 use Rattle.engine.specs.declared.Run.{Run}
 use Rattle.engine.specs.declared.Batch.{Batch}
 use Rattle.engine.specs.Record.{runAt}
 
--- Invalid runs.
+-- R44, by whether the job is ready.
+abbrev pub invalidRun : Bool → ℕ → Job → Run → List ℤ → Bool
+invalidRun ready phase job run cells = (ready && isLive phase) && isStale job (valueAt (run .handed)) (valueAt cells)
 
-abbrev pub lostAt : List ℕ → List ℕ → List Bool → ℕ → Bool
-lostAt sources phases invalid place =
-    cond (eqb (getD sources place 0) 0) false
-    (isDiscarded (getD phases (getD sources place 0 - 1) 0) || getD invalid (getD sources place 0 - 1) false)
+-- R115, of the sources given.
+abbrev pub unusableAt : List ℕ → List ℕ → ℕ → Bool
+unusableAt sources phases place =
+    cond (eqb (getD sources place 0) 0) false (not (isStored (getD phases (getD sources place 0 - 1) 0)))
 
-abbrev pub lostAny : List ℕ → List ℕ → List Bool → Bool
-lostAny sources phases invalid = anyBelow 4 (lostAt sources phases invalid)
-
-abbrev pub invalidRun : Run → ℕ → JobSet → List ℕ → List Bool → Bool
-invalidRun run phase wrote phases invalid =
-    isLive phase && (meetsWith (run .bypassed) wrote || lostAny (run .sources) phases invalid)
-
-abbrev pub writerNoted : JobSet → ℕ → ℕ → ℕ → JobSet
-writerNoted wrote j committed mark = cond (isCommitted committed && eqb mark 1) (withJob wrote j) wrote
-
--- New runs.
-
-abbrev pub unusableAt : List ℕ → List ℕ → List Bool → ℕ → Bool
-unusableAt sources phases invalid place =
-    cond (eqb (getD sources place 0) 0) false
-    (not (isStored (getD phases (getD sources place 0 - 1) 0)) || getD invalid (getD sources place 0 - 1) false)
-
-abbrev pub unusableAny : List ℕ → List ℕ → List Bool → Bool
-unusableAny sources phases invalid = anyBelow 4 (unusableAt sources phases invalid)
+abbrev pub unusableAny : List ℕ → List ℕ → Bool
+unusableAny sources phases = anyBelow 4 (unusableAt sources phases)
 
 -- Each source is a job's place, or none.
 abbrev pub SourcesHeld : List ℕ → Type 0

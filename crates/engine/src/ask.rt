@@ -5,8 +5,10 @@ ghost use mathlib.Core.List.{_++_};
 ghost use Prim.Native.Nat.{_≤_, _<_};
 ghost use lib.ListN.{length, take, drop};
 ghost use mathlib.Core.Bool.{true};
-ghost use Rattle.rules.specs.Speculation.{isInvalid, isReady, judgedAs};
-ghost use Rattle.engine.specs.Record.{snapshotOf};
+ghost use Rattle.dependence.specs.Job.{jobAt};
+ghost use Rattle.rules.specs.Values.{valueAt, isStale};
+ghost use Rattle.rules.specs.Speculation.{isReady, judgedAs};
+ghost use Rattle.engine.specs.Record.{runAt, snapshotOf};
 ghost use Rattle.engine.specs.Ask.{cellRefusal, askedCell};
 ghost use Rattle.engine.specs.Ask.{shownMark, jobAskRefusal, shownJob, refusedJob, askedJob};
 ghost use Rattle.engine.specs.Ask.{anyUncommitted, isFinished, askedBatch, copyAnswer, bufferAfter};
@@ -104,18 +106,21 @@ impl Batch {
         32
     }
 
-    /// R45: how the speculative run of job `j` is judged, where it is out or stored.
+    /// R45: how the speculative run of job `j` is judged, where it is out or stored and the job not committed.
     fn live_validity(self, j: usize) -> u8
         requires { ⌜ (j < self .«job_count») × (self .«job_count» ≤ 128) ⌝ }
-        ensures { λ r. ⌜ r ≡ judgedAs true (isInvalid (snapshotOf self) j) (isReady (snapshotOf self) j) ⌝ }
+        ensures { λ r. ⌜ r ≡ judgedAs true (isReady (snapshotOf self) j) (isStale (jobAt (self .jobs) j) (valueAt (runAt self j .handed)) (valueAt (self .cells))) ⌝ }
     {
-        let invalid = self.invalid_flags();
-        if invalid[j] {
-            return 3;
-        }
         let jobs = self.jobs;
         let committed = self.committed;
         if dependence::is_ready(jobs, committed, j) {
+            let job = jobs[j];
+            let run = self.runs[j];
+            let handed = run.handed;
+            let cells = self.cells;
+            if runs::is_stale(job, handed, cells) {
+                return 3;
+            }
             return 2;
         }
         1
@@ -132,9 +137,11 @@ impl Batch {
         let running = self.running[j];
         let phase = self.phase[j];
         let mut validity = 0;
-        if is_live(phase) {
-            // only here, since the call copies the whole record
-            validity = self.live_validity(j);
+        if committed == 0 {
+            if is_live(phase) {
+                // only here, since the call copies the whole record
+                validity = self.live_validity(j);
+            }
         }
         let wrote = shown_mark(committed, run.wrote);
         let handed = run.handed;

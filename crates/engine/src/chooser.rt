@@ -120,7 +120,7 @@ impl Batch {
             if step == 1 {
                 let job = jobs[j];
                 let sources = walk::nearest::sources_by(job, &nearest);
-                missing = unusable_any(sources, &phases, &invalid);
+                missing = unusable_any(sources, &phases);
                 walk::nearest::note_job(job, how, (j + 1) as u8, &mut nearest);
             }
             let on = self.speculating != 0;
@@ -145,7 +145,7 @@ impl Batch {
             let jobs = self.jobs;
             let committed = self.committed;
             let ready = passes::ready_flags(jobs, committed, n);
-            let invalid = self.invalid_flags();
+            let invalid = self.invalid_flags(ready);
             let chains = passes::chain_lengths(jobs, n);
             let commit = self.pick_for(4, ready, invalid, chains);
             if commit.chain != 0 {

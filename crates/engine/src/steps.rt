@@ -16,6 +16,7 @@ use crate::Answer;
 use crate::Batch;
 use crate::Run;
 use crate::Started;
+use crate::speculation::is_invalid;
 use crate::speculation::is_live;
 use crate::speculation::unusable_any;
 use dependence::Job;
@@ -108,11 +109,12 @@ fn discarded_phase(phase: u8) -> u8
 
 /// Why the own run of a job held is not started, or 0.
 pub(crate) fn start_own_refusal(how: u8, running: u8, phase: u8, ready: bool, invalid: bool) -> u8
-    ensures { λ r. ⌜ r ≡ firstOf (when (isCommitted how || not (eqb running 0)) 13 ∷ when (not ready) 15 ∷ when (isLive phase && not invalid) 17 ∷ []) ⌝ }
+    ensures { λ r. ⌜ r ≡ firstOf (when (isCommitted how || not (eqb running 0)) 13 ∷ when (not ready) 15 ∷ when ((ready && isLive phase) && not invalid) 17 ∷ []) ⌝ }
 {
     let busy = either(how != 0, running != 0);
     let live = is_live(phase);
-    let valid = both(live, !invalid);
+    let judged = both(ready, live);
+    let valid = both(judged, !invalid);
     first_of_three(busy, 13, !ready, 15, valid, 17)
 }
 
@@ -212,8 +214,10 @@ impl Batch {
         let running = self.running[j];
         let phase = self.phase[j];
         let ready = dependence::is_ready(jobs, committed, j);
-        let flags = self.invalid_flags();
-        let invalid = flags[j];
+        let job = jobs[j];
+        let old = self.runs[j];
+        let cells = self.cells;
+        let invalid = is_invalid(ready, phase, job, old, cells);
         let refusal = start_own_refusal(how, running, phase, ready, invalid);
         if refusal != 0 {
             return Started {
@@ -222,8 +226,6 @@ impl Batch {
                 batch: self,
             };
         }
-        let job = jobs[j];
-        let cells = self.cells;
         let handed = runs::present_values(job, cells);
         let run = new_run(handed, [0; 4], JobSet { low: 0, high: 0 });
         let left = discarded_phase(phase);
@@ -279,9 +281,8 @@ impl Batch {
         let running = self.running[j];
         let phase = phases[j];
         let ready = dependence::is_ready(jobs, committed, j);
-        let flags = self.invalid_flags();
         let sources = walk::sources(jobs, committed, j);
-        let missing = unusable_any(sources, &phases, &flags);
+        let missing = unusable_any(sources, &phases);
         let on = self.speculating != 0;
         let refusal = start_speculation_refusal(on, how, running, phase, ready, missing);
         if refusal != 0 {
@@ -412,8 +413,10 @@ impl Batch {
         let how = committed[j];
         let phase = self.phase[j];
         let ready = dependence::is_ready(jobs, committed, j);
-        let flags = self.invalid_flags();
-        let invalid = flags[j];
+        let job = jobs[j];
+        let run = self.runs[j];
+        let present = self.cells;
+        let invalid = is_invalid(ready, phase, job, run, present);
         let refusal = commit_refusal(how, phase, ready, invalid);
         if refusal != 0 {
             return Started {
@@ -422,10 +425,7 @@ impl Batch {
                 batch: self,
             };
         }
-        let job = jobs[j];
-        let run = self.runs[j];
         let reported = run.reported;
-        let present = self.cells;
         let written = runs::write_back(job, reported, run.wrote, present);
         self.cells = written;
         self.committed[j] = 2;

@@ -1,22 +1,23 @@
 -- Calls on small snapshots with the number that the rules answer: each test of each call once, and which of two tests
 -- that both apply goes first. They pin the tests too that no theorem about whole lists of calls needs.
 use Prim.Native.Nat.{ℕ}
-use mathlib.Core.Bool.{Bool, true, false, cond, _&&_}
+use mathlib.Core.Bool.{Bool, true, false}
 use mathlib.Core.List.{List, [], _∷_}
 use mathlib.Core.Path.{_≡_, refl}
-use lib.Dec.{eqb}
-use lib.IntN.{pos}
+use lib.IntN.{ℤ, pos, negsuc}
 use lib.ListN.{getD}
 use Rattle.laws.specs.Search.{anyBelow}
 use Rattle.laws.specs.Refusal.{firstOf}
+use Rattle.laws.specs.SameHeight.{sameHeight}
 use Rattle.laws.specs.Rows.{AllHold, end, _also_}
 use Rattle.dependence.specs.declared.Access.{Access}
 use Rattle.dependence.specs.declared.Job.{Job}
 use Rattle.dependence.specs.Job.{noAccess, jobAt}
 use Rattle.dependence.specs.Conflict.{touches, conflicts}
+use Rattle.rules.specs.Values.{valueAt}
 use Rattle.rules.specs.Walk.{sourceBelow}
 use Rattle.rules.specs.Snapshot.{Snapshot}
-use Rattle.rules.specs.Speculation.{isReady, invalidBelow, isInvalid}
+use Rattle.rules.specs.Speculation.{isReady, isValid, isInvalid}
 use Rattle.rules.specs.Call.{Call, insert, seal, startOwn, startSpeculation, reportOwn, reportSpeculation, commit}
 use Rattle.rules.specs.Refusals.{refusalOf}
 
@@ -48,46 +49,56 @@ four mode cell =
 abbrev jobs : List Job
 jobs = one 2 0 ∷ one 1 0 ∷ one 1 0 ∷ one 0 0 ∷ four 2 4 ∷ four 1 5 ∷ []
 
--- How a job stands.
+-- The present heights, by cell.
+abbrev heights : List ℤ
+heights = pos 1500 ∷ pos 1501 ∷ pos 1502 ∷ pos 1503 ∷ pos 1504 ∷ pos 1505 ∷ []
+
+-- How a job stands, with the values that its guess was handed.
 record Standing : Type 0 where
   committed : Bool
-  wrote : Bool
   running : Bool
   phase : ℕ
+  handed : List ℤ
 
 -- Nothing of it has started.
 abbrev idle : Standing
-idle = record { committed = false; wrote = false; running = false; phase = 0 }
+idle = record { committed = false; running = false; phase = 0; handed = [] }
 
--- Its guess is out, or has a stored report.
+-- Its guess is out, or has a stored report. It was handed the height of cell 0, or an older one.
 abbrev guessed : Standing
-guessed = record { committed = false; wrote = false; running = false; phase = 1 }
+guessed = record { committed = false; running = false; phase = 1; handed = pos 1500 ∷ [] }
 
 abbrev stored : Standing
-stored = record { committed = false; wrote = false; running = false; phase = 2 }
+stored = record { committed = false; running = false; phase = 2; handed = pos 1500 ∷ [] }
+
+abbrev guessedStale : Standing
+guessedStale = record { committed = false; running = false; phase = 1; handed = pos 1499 ∷ [] }
+
+abbrev storedStale : Standing
+storedStale = record { committed = false; running = false; phase = 2; handed = pos 1499 ∷ [] }
+
+-- Its guess has a stored report, and was handed these values.
+abbrev storedWith : List ℤ → Standing
+storedWith values = record { committed = false; running = false; phase = 2; handed = values }
 
 -- Its own run is out: it had no guess, or that one was thrown away.
 abbrev running : Standing
-running = record { committed = false; wrote = false; running = true; phase = 0 }
+running = record { committed = false; running = true; phase = 0; handed = [] }
 
 abbrev rerunning : Standing
-rerunning = record { committed = false; wrote = false; running = true; phase = 3 }
+rerunning = record { committed = false; running = true; phase = 3; handed = [] }
 
--- It is settled: by its own run with mark 0 or 1, by its own run in place of its guess, by its guess.
+-- It is settled: by its own run, by its own run in place of its guess, by its guess.
 abbrev kept : Standing
-kept = record { committed = true; wrote = false; running = false; phase = 0 }
-
-abbrev wrote : Standing
-wrote = record { committed = true; wrote = true; running = false; phase = 0 }
+kept = record { committed = true; running = false; phase = 0; handed = [] }
 
 abbrev rerun : Standing
-rerun = record { committed = true; wrote = false; running = false; phase = 3 }
+rerun = record { committed = true; running = false; phase = 3; handed = [] }
 
 abbrev taken : Standing
-taken = record { committed = true; wrote = false; running = false; phase = 2 }
+taken = record { committed = true; running = false; phase = 2; handed = pos 1499 ∷ [] }
 
 -- The snapshot with this many of the jobs, sealed or not, with guessing on or off. Jobs that the list does not reach are idle.
--- The guess of job 1 looked past job 0, and those of jobs 2 and 3 took their value from the writer before them.
 abbrev moment : ℕ → Bool → Bool → List Standing → Snapshot
 moment count sealed speculating standing =
     record {
@@ -95,13 +106,12 @@ moment count sealed speculating standing =
       jobCount = count;
       sealed = sealed;
       speculating = speculating;
+      cells = λ x. valueAt heights x;
       job = λ j. jobAt jobs j;
       committed = λ j. getD standing j idle .committed;
-      wrote = λ j. getD standing j idle .wrote;
       running = λ j. getD standing j idle .running;
       phase = λ j. getD standing j idle .phase;
-      bypassed = λ j i. eqb j 1 && eqb i 0;
-      source = λ j place. cond (eqb place 0) (getD (0 ∷ 0 ∷ 2 ∷ 3 ∷ []) j 0) 0;
+      handed = λ j place. valueAt (getD standing j idle .handed) place;
     }
 
 abbrev unsealed : ℕ → Snapshot
@@ -143,16 +153,20 @@ table =
     ∷ answers (guessingOn []) (startOwn 1) 15
     ∷ answers (guessingOn (kept ∷ guessed ∷ [])) (startOwn 1) 17
     ∷ answers (guessingOn (kept ∷ stored ∷ [])) (startOwn 1) 17
-    -- the guess has fallen: a job that it looked past wrote, or the guess that it took from was thrown away
-    ∷ answers (guessingOn (wrote ∷ guessed ∷ [])) (startOwn 1) 0
-    ∷ answers (guessingOn (wrote ∷ rerun ∷ stored ∷ [])) (startOwn 2) 0
+    -- the guess has fallen; where it was handed the present height it stands, though the guess before it was thrown away
+    ∷ answers (guessingOn (kept ∷ guessedStale ∷ [])) (startOwn 1) 0
+    ∷ answers (guessingOn (kept ∷ storedStale ∷ [])) (startOwn 1) 0
+    ∷ answers (guessingOn (kept ∷ rerun ∷ stored ∷ [])) (startOwn 2) 17
     ∷ answers (unsealed 6) (startOwn 6) 10
     ∷ answers (guessingOn (idle ∷ kept ∷ [])) (startOwn 1) 13
     ∷ answers (guessingOn (running ∷ stored ∷ [])) (startOwn 1) 15
+    ∷ answers (guessingOn (running ∷ storedStale ∷ [])) (startOwn 1) 15
     -- start guess
     ∷ answers (guessingOn []) (startSpeculation 1) 0
     ∷ answers (guessingOn (running ∷ stored ∷ [])) (startSpeculation 2) 0
     ∷ answers (guessingOn (kept ∷ taken ∷ stored ∷ [])) (startSpeculation 3) 0
+    -- a fallen guess is taken from too
+    ∷ answers (guessingOn (kept ∷ storedStale ∷ [])) (startSpeculation 2) 0
     ∷ answers (unsealed 6) (startSpeculation 1) 10
     ∷ answers (guessingOn []) (startSpeculation 6) 11
     ∷ answers (guessingOff []) (startSpeculation 1) 12
@@ -160,15 +174,14 @@ table =
     ∷ answers (guessingOn (idle ∷ running ∷ [])) (startSpeculation 1) 13
     ∷ answers (guessingOn (idle ∷ guessed ∷ [])) (startSpeculation 1) 13
     ∷ answers (guessingOn (idle ∷ stored ∷ [])) (startSpeculation 1) 13
-    ∷ answers (guessingOn (wrote ∷ rerunning ∷ [])) (startSpeculation 1) 13
+    ∷ answers (guessingOn (kept ∷ rerunning ∷ [])) (startSpeculation 1) 13
     ∷ answers (guessingOn []) (startSpeculation 0) 14
     ∷ answers (guessingOn (kept ∷ [])) (startSpeculation 1) 14
-    -- the writer met has no guess, or one without a report, or a fallen one, or one that took from a fallen one
+    -- the writer met has no guess, or one without a report, or one thrown away
     ∷ answers (guessingOn []) (startSpeculation 2) 15
     ∷ answers (guessingOn (idle ∷ guessed ∷ [])) (startSpeculation 2) 15
-    ∷ answers (guessingOn (wrote ∷ rerunning ∷ [])) (startSpeculation 2) 15
-    ∷ answers (guessingOn (wrote ∷ stored ∷ [])) (startSpeculation 2) 15
-    ∷ answers (guessingOn (wrote ∷ stored ∷ stored ∷ [])) (startSpeculation 3) 15
+    ∷ answers (guessingOn (kept ∷ guessedStale ∷ [])) (startSpeculation 2) 15
+    ∷ answers (guessingOn (kept ∷ rerunning ∷ [])) (startSpeculation 2) 15
     ∷ answers (guessingOff []) (startSpeculation 6) 11
     ∷ answers (guessingOff (kept ∷ [])) (startSpeculation 0) 12
     ∷ answers (guessingOn (running ∷ [])) (startSpeculation 0) 13
@@ -190,56 +203,61 @@ table =
     ∷ answers (guessingOn (idle ∷ guessed ∷ [])) (reportSpeculation 1 [] 0) 0
     ∷ answers (guessingOn (guessed ∷ [])) (reportSpeculation 0 [] 1) 0
     -- a fallen guess is reported too
-    ∷ answers (guessingOn (wrote ∷ guessed ∷ [])) (reportSpeculation 1 [] 0) 0
+    ∷ answers (guessingOn (kept ∷ guessedStale ∷ [])) (reportSpeculation 1 [] 0) 0
     ∷ answers (unsealed 6) (reportSpeculation 1 [] 0) 10
     ∷ answers (guessingOn []) (reportSpeculation 6 [] 0) 11
     ∷ answers (guessingOn []) (reportSpeculation 1 [] 0) 13
     ∷ answers (guessingOn (idle ∷ stored ∷ [])) (reportSpeculation 1 [] 0) 13
-    ∷ answers (guessingOn (wrote ∷ rerunning ∷ [])) (reportSpeculation 1 [] 0) 13
+    ∷ answers (guessingOn (kept ∷ rerunning ∷ [])) (reportSpeculation 1 [] 0) 13
     ∷ answers (guessingOn (idle ∷ guessed ∷ [])) (reportSpeculation 1 [] 2) 16
     ∷ answers (guessingOn (idle ∷ guessed ∷ [])) (reportSpeculation 1 [] 1) 16
     ∷ answers (guessingOn (idle ∷ stored ∷ [])) (reportSpeculation 1 [] 1) 13
     -- settle
     ∷ answers (guessingOn (kept ∷ stored ∷ [])) (commit 1) 0
     ∷ answers (guessingOn (kept ∷ taken ∷ stored ∷ [])) (commit 2) 0
+    ∷ answers (guessingOn (kept ∷ rerun ∷ stored ∷ [])) (commit 2) 0
+    -- what stands in places not in use is not compared
+    ∷ answers (guessingOn (kept ∷ storedWith (pos 1500 ∷ pos 7 ∷ []) ∷ [])) (commit 1) 0
+    -- each of the four values is compared, with its own cell
+    ∷ answers (guessingOn (idle ∷ idle ∷ idle ∷ idle ∷ storedWith (pos 1501 ∷ pos 1502 ∷ pos 1503 ∷ pos 1504 ∷ []) ∷ [])) (commit 4) 0
+    ∷ answers (guessingOn (idle ∷ idle ∷ idle ∷ idle ∷ storedWith (pos 1500 ∷ pos 1502 ∷ pos 1503 ∷ pos 1504 ∷ []) ∷ [])) (commit 4) 18
+    ∷ answers (guessingOn (idle ∷ idle ∷ idle ∷ idle ∷ storedWith (pos 1501 ∷ pos 1502 ∷ pos 1503 ∷ negsuc 1504 ∷ []) ∷ [])) (commit 4) 18
     ∷ answers (unsealed 6) (commit 1) 10
     ∷ answers (guessingOn []) (commit 6) 11
     ∷ answers (guessingOn (kept ∷ taken ∷ [])) (commit 1) 13
     ∷ answers (guessingOn (kept ∷ [])) (commit 1) 13
     ∷ answers (guessingOn (kept ∷ guessed ∷ [])) (commit 1) 13
-    ∷ answers (guessingOn (wrote ∷ rerunning ∷ [])) (commit 1) 13
+    ∷ answers (guessingOn (kept ∷ rerunning ∷ [])) (commit 1) 13
     ∷ answers (guessingOn (running ∷ stored ∷ [])) (commit 1) 15
-    ∷ answers (guessingOn (wrote ∷ stored ∷ [])) (commit 1) 18
-    ∷ answers (guessingOn (wrote ∷ rerun ∷ stored ∷ [])) (commit 2) 18
+    ∷ answers (guessingOn (kept ∷ storedStale ∷ [])) (commit 1) 18
+    ∷ answers (guessingOn (kept ∷ rerun ∷ storedStale ∷ [])) (commit 2) 18
     ∷ answers (guessingOn (idle ∷ guessed ∷ [])) (commit 1) 13
-    ∷ answers (guessingOn (wrote ∷ stored ∷ stored ∷ [])) (commit 2) 15
+    ∷ answers (guessingOn (kept ∷ storedStale ∷ storedStale ∷ [])) (commit 2) 15
     ∷ []
 
 -- The one theorem: every row of the table holds.
 pub examples-hold : AllHold Holds table
-unfolding refusalOf firstOf isReady isInvalid invalidBelow sourceBelow conflicts touches anyBelow
+unfolding refusalOf firstOf isReady isValid isInvalid sourceBelow conflicts touches anyBelow sameHeight
 examples-hold =
     -- insert
-    refl also refl also refl also refl also refl
-    also refl also refl also refl also refl also refl also refl
+    refl also refl also refl also refl also refl also refl also refl also refl also refl also refl
+    also refl
     -- seal
     also refl also refl also refl also refl also refl
     -- start own
-    also refl also refl also refl also refl also refl also refl also refl also refl
-    also refl also refl
-    also refl also refl also refl
-    -- start guess
-    also refl also refl also refl
     also refl also refl also refl also refl also refl also refl also refl also refl also refl also refl
     also refl also refl also refl also refl also refl
-    also refl also refl also refl also refl
+    -- start guess
+    also refl also refl also refl also refl also refl also refl also refl also refl also refl also refl
+    also refl also refl also refl also refl also refl also refl also refl also refl also refl also refl
+    also refl also refl
     -- report own
-    also refl also refl also refl also refl also refl also refl also refl also refl also refl
-    also refl also refl
+    also refl also refl also refl also refl also refl also refl also refl also refl also refl also refl
+    also refl
     -- report guess
-    also refl also refl also refl
-    also refl also refl also refl also refl also refl also refl also refl also refl
+    also refl also refl also refl also refl also refl also refl also refl also refl also refl also refl
+    also refl
     -- settle
-    also refl also refl
-    also refl also refl also refl also refl also refl also refl also refl also refl also refl also refl also refl
+    also refl also refl also refl also refl also refl also refl also refl also refl also refl also refl
+    also refl also refl also refl also refl also refl also refl also refl also refl
     also end

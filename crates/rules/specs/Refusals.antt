@@ -31,7 +31,7 @@ startOwnTests s j =
     (when (s .committed j || s .running j) 13 ∷ when (not (isReady s j)) 15 ∷ when (isValid s j) 17 ∷ [])
 
 -- Start guess. R112: guessing is off. R113: the job is settled, its own run is out, or a guess was ever started. R114: it
--- is ready. R115: a job that it would take from has no stored guess, or a fallen one.
+-- is ready. R115: a job that it would take from has no stored guess.
 abbrev pub startSpeculationTests : Snapshot → ℕ → List Refusal
 startSpeculationTests s j =
     stepTests s j

@@ -2,6 +2,7 @@
 use Prim.Native.Nat.{ℕ}
 use mathlib.Core.Bool.{Bool, _||_}
 use lib.Dec.{eqb}
+use lib.IntN.{ℤ}
 use Rattle.dependence.specs.declared.Job.{Job}
 
 pub record Snapshot : Type 0 where
@@ -11,19 +12,18 @@ pub record Snapshot : Type 0 where
   -- the batch is sealed, and with guessing on
   pub sealed : Bool
   pub speculating : Bool
+  -- the present height of each cell
+  pub cells : ℕ → ℤ
   -- of each job: what was inserted
   pub job : ℕ → Job
-  -- it is settled, and settled with mark 1
+  -- it is settled
   pub committed : ℕ → Bool
-  pub wrote : ℕ → Bool
   -- its own run is out
   pub running : ℕ → Bool
   -- its guess (R40): 0 never started, 1 out, 2 with a stored report, 3 thrown away
   pub phase : ℕ → ℕ
-  -- its guess looked past the job given second
-  pub bypassed : ℕ → ℕ → Bool
-  -- its guess took the value at a place from a job: one more than that job's number, 0 for the present cell
-  pub source : ℕ → ℕ → ℕ
+  -- what its guess was handed at the place given second, 0 where it has none
+  pub handed : ℕ → ℕ → ℤ
 
 abbrev pub neverStarted : ℕ → Bool
 neverStarted phase = eqb phase 0

@@ -1,12 +1,13 @@
 //! The four values of a run: what is handed out of the cells, what of a report is stored, what is written back.
 
 ghost use mathlib.Core.Path.{_≡_};
-ghost use mathlib.Core.Bool.{cond, _&&_};
+ghost use mathlib.Core.Bool.{cond, not, _&&_};
 ghost use Prim.Native.Nat.{_<_};
 ghost use lib.Dec.{eqb};
 ghost use lib.ListN.{length};
+ghost use Rattle.laws.specs.SameHeight.{sameHeight};
 ghost use Rattle.dependence.specs.Job.{inUse, accessAt, anyAccess};
-ghost use Rattle.rules.specs.Values.{valueAt, presentAt, presentValues, isUncertain, wroteRefused, writesAt, storedAt, storedValues, writeAt, writeBack, valueFor};
+ghost use Rattle.rules.specs.Values.{valueAt, presentAt, presentValues, isStale, isUncertain, wroteRefused, writesAt, storedAt, storedValues, writeAt, writeBack, valueFor};
 use dependence::Job;
 use dependence::UNCERTAIN_WRITE;
 use dependence::WRITE;
@@ -37,6 +38,32 @@ pub fn present_values(job: Job, cells: [i32; 64]) -> [i32; 4]
     let c = present_at(job, cells, 2);
     let d = present_at(job, cells, 3);
     [a, b, c, d]
+}
+
+/// Whether the place is in use and the two values differ there.
+fn differs_at(job: Job, handed: [i32; 4], present: [i32; 4], place: usize) -> bool
+    requires { ⌜ place < 4 ⌝ }
+    ensures { λ r. ⌜ r ≡ (inUse job place && not (sameHeight (valueAt handed place) (valueAt present place))) ⌝ }
+{
+    if (job.arity as usize) <= place {
+        return false;
+    }
+    handed[place] != present[place]
+}
+
+/// R43: whether a value handed, at a place in use, is not the height that its cell holds.
+pub fn is_stale(job: Job, handed: [i32; 4], cells: [i32; 64]) -> bool
+    ensures { λ r. ⌜ r ≡ isStale job (valueAt handed) (valueAt cells) ⌝ }
+{
+    let present = present_values(job, cells);
+    let mut place: usize = 0;
+    while place < 4 {
+        if differs_at(job, handed, present, place) {
+            return true;
+        }
+        place += 1;
+    }
+    false
 }
 
 /// The place's value if the job names the cell there, else the given one.
