@@ -9,7 +9,8 @@ use Rattle.rules.specs.Speculation.{isReady}
 use Rattle.engine.specs.declared.Batch.{Batch}
 use Rattle.engine.specs.Opening.{opened}
 use Rattle.bypass.specs.Bypass.{toldOf, askedSpeculation}
-use Rattle.claims.specs.Ledger.{Ledger, isCounted, guessBypassed, snapshotOfLedger}
+use Rattle.claims.specs.Ledger.{Ledger, isCounted, guessBypassed}
+use Rattle.claims.specs.Enter.{snapshotOfLedger}
 use Rattle.claims.specs.Trace.{batchOf, ledgerOf}
 
 -- By the ledger the guess of job j looked past job i, and that job is open: it has no counted report. A guess that is struck

@@ -14,7 +14,8 @@ use Rattle.engine.specs.declared.Batch.{Batch}
 use Rattle.engine.specs.Ask.{askedCell, askedJob}
 use Rattle.engine.specs.Opening.{opened}
 use Rattle.engine.specs.Perform.{perform}
-use Rattle.claims.specs.Ledger.{Ledger, Counted, snapshotOfLedger, isSome}
+use Rattle.claims.specs.Ledger.{Ledger, Counted, isSome}
+use Rattle.claims.specs.Enter.{snapshotOfLedger}
 use Rattle.claims.specs.Replay.{replay, leftFor}
 use Rattle.claims.specs.Trace.{batchOf, ledgerOf}
 

@@ -1,5 +1,6 @@
 pub mod Ledger
 pub mod Replay
+pub mod Enter
 pub mod Trace
 pub mod Demand3
 pub mod StepCount
@@ -9,3 +10,4 @@ pub mod Inserts
 pub mod Chooser
 pub mod Tallies
 pub mod Bypassed
+pub mod FormerRule

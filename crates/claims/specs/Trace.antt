@@ -7,7 +7,8 @@ use Rattle.rules.specs.Call.{Call}
 use Rattle.engine.specs.declared.Batch.{Batch}
 use Rattle.engine.specs.Opening.{opened}
 use Rattle.engine.specs.Perform.{perform}
-use Rattle.claims.specs.Ledger.{Ledger, emptyLedger, enter}
+use Rattle.claims.specs.Ledger.{Ledger, emptyLedger}
+use Rattle.claims.specs.Enter.{enter}
 
 -- What a host sees of a call: its arguments, whether it was accepted, and the values that a start handed out.
 pub record Event : Type 0 where

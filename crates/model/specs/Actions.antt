@@ -1,6 +1,6 @@
 -- The five steps keep the invariant. Steps 0, 1 and 3 change an open job, steps 2 and 4 commit one.
 use Prim.Native.Nat.{ℕ, _<_}
-use mathlib.Core.Path.{_≡_, refl, _∙_}
+use mathlib.Core.Path.{_≡_, refl}
 use mathlib.Core.Logic.{inl, inr}
 use mathlib.Core.Option.{none}
 use mathlib.Core.Bool.{Bool, true}
@@ -9,9 +9,10 @@ use Rattle.model.specs.Cases.{none-some}
 use Rattle.model.specs.Update.{update-same}
 use Rattle.model.specs.State.{names, Progress, idle, running, committed, isCommitted}
 use Rattle.model.specs.State.{Origin, Speculation, never, out, stored, discarded, originOf}
-use Rattle.model.specs.State.{State, Open, Ready, Right, Invalid, Source, SpeculationOk, Invariant}
+use Rattle.model.specs.State.{State, Open, Ready, Right, Matches, SpeculationOk}
+use Rattle.model.specs.FormerRule.{Lost, Source, Carried}
 use Rattle.model.specs.StateLaws.{idle-open, running-open}
-use Rattle.model.specs.InvariantLaws.{present-is-before, valid-is-right}
+use Rattle.model.specs.InvariantLaws.{matches-is-right}
 use Rattle.model.specs.Commit.{commitState, commit-state-keeps}
 use Rattle.model.specs.Change.{Grow, kept, dropped, begun, told, changeState, change-state-keeps}
 use Rattle.model.specs.Change.{still-source, old-sources}
@@ -54,18 +55,19 @@ ownStart s j handed = changeState s j (running handed) (discard (s .speculation 
 
 -- The job is ready, and the present cells hold what the jobs before it left.
 pub own-start-keeps : (s : State) (j : ℕ) (handed : ℕ → ℤ)
-    → Invariant s
+    → Carried s
     → j < s .jobCount
     → s .progress j ≡ idle
     → Ready s j
-    → ((x : ℕ) → names (s .uses j x) ≡ true → handed x ≡ s .cells x)
-    → Invariant (ownStart s j handed)
+    → Matches s j handed
+    → Carried (ownStart s j handed)
 unfolding isCommitted
-own-start-keeps s j handed inv l e ready values =
+own-start-keeps s j handed carried l e ready matches =
     change-state-keeps s j (running handed) (discard (s .speculation j))
-    inv (idle-open e) refl (discard-grows (s .speculation j))
-    (ready, λ x n. values x n ∙ present-is-before s inv j x l (idle-open e) n)
+    (carried .right) (idle-open e) refl (discard-grows (s .speculation j))
+    (ready, matches-is-right s (carried .right) j handed l (idle-open e) matches)
     (discard-ok _ (s .speculation j))
+    (carried .sourced)
     (λ origin d. none-some (discard-origin (s .speculation j)) d)
 
 -- R52, start guess.
@@ -74,15 +76,15 @@ speculationStart s j origin = changeState s j idle (out origin)
 
 -- The walk back gives every value its source.
 pub speculation-start-keeps : (s : State) (j : ℕ) (origin : Origin)
-    → Invariant s
+    → Carried s
     → j < s .jobCount
     → s .progress j ≡ idle
     → s .speculation j ≡ never
     → Gathered s j origin
-    → Invariant (speculationStart s j origin)
+    → Carried (speculationStart s j origin)
 unfolding isCommitted originOf
-speculation-start-keeps s j origin inv l e g gathered =
-    change-state-keeps s j idle (out origin) inv o refl grow tt refl
+speculation-start-keeps s j origin carried l e g gathered =
+    change-state-keeps s j idle (out origin) (carried .right) o refl grow tt refl (carried .sourced)
     (λ origin' d valid x n. let same : origin ≡ origin' = cc in rw (← same) (new valid x n))
   where
     o : Open s j
@@ -91,13 +93,13 @@ speculation-start-keeps s j origin inv l e g gathered =
     grow : Grow (s .speculation j) (out origin)
     grow = rw g begun
 
-    new : ¬ Invalid (speculationStart s j origin) j
+    new : ¬ Lost (speculationStart s j origin) j
         → (x : ℕ) → names (s .uses j x) ≡ true → Source (speculationStart s j origin) j x origin
     new valid x n =
-        still-source s j idle (out origin) inv o refl grow j x origin
+        still-source s j idle (out origin) (carried .right) o refl grow j x origin
         (rw (update-same (s .speculation) j (out origin) j refl))
         valid
-        (gathered-source s j origin inv l o gathered x n)
+        (gathered-source s j origin (carried .right) l o gathered x n)
 
 -- R53, report own.
 abbrev pub ownReport : State → ℕ → (ℕ → ℤ) → (ℕ → ℤ) → Bool → State
@@ -105,16 +107,17 @@ ownReport s j handed reported mark = commitState s j handed reported mark
 
 -- The own run that is out was handed the right values, and its job is ready.
 pub own-report-keeps : (s : State) (j : ℕ) (handed reported : ℕ → ℤ) (mark : Bool)
-    → Invariant s
+    → Carried s
     → j < s .jobCount
     → s .progress j ≡ running handed
-    → Invariant (ownReport s j handed reported mark)
-own-report-keeps s j handed reported mark inv l e =
-    commit-state-keeps s j handed reported mark inv l (running-open e) (run .0) (run .1)
-    (no-guess (s .speculation j) (rw e at (inv .speculations j)))
+    → Carried (ownReport s j handed reported mark)
+own-report-keeps s j handed reported mark carried l e =
+    commit-state-keeps s j handed reported mark (carried .right) l (running-open e) (run .0) (run .1)
+    (no-guess (s .speculation j) (rw e at (carried .right .speculations j)))
+    (carried .sourced)
   where
     run : Ready s j × Right s j handed
-    run = rw e at (inv .runs j)
+    run = rw e at (carried .right .runs j)
 
     -- while an own run is out there is no guess
     no-guess : (u : Speculation) → SpeculationOk (running handed) u → SpeculationOk (committed handed reported mark) u
@@ -130,16 +133,16 @@ speculationReport s j origin reported mark = changeState s j idle (stored origin
 
 -- The guess keeps its origin.
 pub speculation-report-keeps : (s : State) (j : ℕ) (origin : Origin) (reported : ℕ → ℤ) (mark : Bool)
-    → Invariant s
+    → Carried s
     → s .speculation j ≡ out origin
-    → Invariant (speculationReport s j origin reported mark)
+    → Carried (speculationReport s j origin reported mark)
 unfolding isCommitted originOf
-speculation-report-keeps s j origin reported mark inv g =
-    change-state-keeps s j idle (stored origin reported mark) inv o refl grow tt (inl refl)
+speculation-report-keeps s j origin reported mark carried g =
+    change-state-keeps s j idle (stored origin reported mark) (carried .right) o refl grow tt (inl refl) (carried .sourced)
     (λ origin' d valid x n. let same : origin ≡ origin' = cc in rw (← same) (old valid x n))
   where
     e : s .progress j ≡ idle
-    e = rw g at (inv .speculations j)
+    e = rw g at (carried .right .speculations j)
 
     o : Open s j
     o = idle-open e
@@ -147,10 +150,10 @@ speculation-report-keeps s j origin reported mark inv g =
     grow : Grow (s .speculation j) (stored origin reported mark)
     grow = rw g told
 
-    old : ¬ Invalid (speculationReport s j origin reported mark) j
+    old : ¬ Lost (speculationReport s j origin reported mark) j
         → (x : ℕ) → names (s .uses j x) ≡ true → Source (speculationReport s j origin reported mark) j x origin
     old valid x n =
-        old-sources s j idle (stored origin reported mark) inv o refl grow j origin
+        old-sources s j idle (stored origin reported mark) (carried .right) o refl grow (carried .sourced) j origin
         (rw g)
         (rw (update-same (s .speculation) j (stored origin reported mark) j refl))
         (rw (update-same (s .progress) j idle j refl))
@@ -160,17 +163,17 @@ speculation-report-keeps s j origin reported mark inv g =
 abbrev pub speculationCommit : State → ℕ → Origin → (ℕ → ℤ) → Bool → State
 speculationCommit s j origin reported mark = commitState s j (origin .handed) reported mark
 
--- The guess stands, so it was handed the right values.
+-- The guess was handed the present heights, so the right values.
 pub commit-keeps : (s : State) (j : ℕ) (origin : Origin) (reported : ℕ → ℤ) (mark : Bool)
-    → Invariant s
+    → Carried s
     → j < s .jobCount
     → s .progress j ≡ idle
     → s .speculation j ≡ stored origin reported mark
     → Ready s j
-    → ¬ Invalid s j
-    → Invariant (speculationCommit s j origin reported mark)
-unfolding originOf
-commit-keeps s j origin reported mark inv l e g ready valid =
-    commit-state-keeps s j (origin .handed) reported mark inv l (idle-open e) ready
-    (valid-is-right s inv j origin (rw g) (idle-open e) ready valid)
+    → Matches s j (origin .handed)
+    → Carried (speculationCommit s j origin reported mark)
+commit-keeps s j origin reported mark carried l e g ready matches =
+    commit-state-keeps s j (origin .handed) reported mark (carried .right) l (idle-open e) ready
+    (matches-is-right s (carried .right) j (origin .handed) l (idle-open e) matches)
     (rw g (inr refl))
+    (carried .sourced)

@@ -14,8 +14,9 @@ use Rattle.model.specs.Column.{after-agree}
 use Rattle.model.specs.State.{names, Progress, idle, running, committed, isCommitted, isMarked}
 use Rattle.model.specs.State.{Origin, Speculation, never, out, stored, discarded, originOf, reportAt}
 use Rattle.model.specs.State.{State, effects, before, Open, Ready, Right}
-use Rattle.model.specs.State.{Invalid, bypassed-wrote, source-discarded, source-invalid}
-use Rattle.model.specs.State.{Bypass, Source, forwarded, present, RunOk, SpeculationOk, Invariant}
+use Rattle.model.specs.State.{RunOk, SpeculationOk, Invariant}
+use Rattle.model.specs.FormerRule.{Lost, bypassed-wrote, source-discarded}
+use Rattle.model.specs.FormerRule.{Bypass, Source, forwarded, present, Sourced, Carried}
 use Rattle.model.specs.StateLaws.{open-no-effect, marked-committed}
 
 -- What may become of a guess while its job stays open: nothing, it is thrown away, it is started, or it reports.
@@ -115,26 +116,22 @@ module _ (s : State) (j : ℕ) (p : Progress) (u : Speculation)
   still-marked : (i : ℕ) → isMarked (s .progress i) ≡ true → isMarked (s' .progress i) ≡ true
   still-marked i m = at-or i j (λ e. clash (marked-committed _ m) (rw e o)) (λ e. rw (progress-other i e) m)
 
-  -- A guess that has fallen has fallen still, or is thrown away.
-  still-invalid : {i : ℕ} → Invalid s i → (s' .speculation i ≡ discarded) ⊎ Invalid s' i
-  still-invalid {i} (bypassed-wrote {i = k} e f m) =
+  -- A guess that is lost is lost still, or is thrown away.
+  still-lost : {i : ℕ} → Lost s i → (s' .speculation i ≡ discarded) ⊎ Lost s' i
+  still-lost {i} (bypassed-wrote {i = k} e f m) =
       one-or (grow-origin (grow-all i) e) (λ d. inl d) (λ e'. inr (bypassed-wrote e' f (still-marked k m)))
-  still-invalid {i} (source-discarded {w = w} e f z) =
+  still-lost {i} (source-discarded {w = w} e f z) =
       one-or (grow-origin (grow-all i) e)
       (λ d. inl d)
       (λ e'. inr (source-discarded e' f (grow-discarded (grow-all w) z)))
-  still-invalid {i} (source-invalid {w = w} e f z) =
-      one-or (grow-origin (grow-all i) e)
-      (λ d. inl d)
-      (λ e'. inr (one-or (still-invalid z) (λ d. source-discarded e' f d) (λ y. source-invalid e' f y)))
 
   -- The same jobs are open, so those looked past are the same.
   still-bypass : (i x : ℕ) (origin : Origin) (first : ℕ) → Bypass s i x origin first → Bypass s' i x origin first
   still-bypass i x origin first bypass k b c w q = bypass k b c w (sym (same-committed k) ∙ q)
 
-  -- A source stays, unless the guess taken from is thrown away: but then this one has fallen.
+  -- A source stays, unless the guess taken from is thrown away: but then this one is lost.
   pub still-source : (i x : ℕ) (origin : Origin)
-      → originOf (s' .speculation i) ≡ some origin → ¬ Invalid s' i → Source s i x origin → Source s' i x origin
+      → originOf (s' .speculation i) ≡ some origin → ¬ Lost s' i → Source s i x origin → Source s' i x origin
   still-source i x origin e valid (present value bypass) =
       present (value ∙ sym (same-before i x)) (still-bypass i x origin 0 bypass)
   still-source i x origin e valid (forwarded w from b a report unsettled bypass) =
@@ -143,22 +140,20 @@ module _ (s : State) (j : ℕ) (p : Progress) (u : Speculation)
       (λ r. forwarded w from b a r (same-committed w ∙ unsettled) (still-bypass i x origin (suc w) bypass))
 
   -- A guess that was there has its sources still.
-  pub old-sources : (i : ℕ) (origin : Origin)
+  pub old-sources : Sourced s → (i : ℕ) (origin : Origin)
       → originOf (s .speculation i) ≡ some origin
       → originOf (s' .speculation i) ≡ some origin
       → Open s' i
-      → ¬ Invalid s' i
+      → ¬ Lost s' i
       → (x : ℕ) → names (s .uses i x) ≡ true → Source s' i x origin
-  old-sources i origin e e' q valid x n =
-      still-source i x origin e' valid (inv .sources i origin e (sym (same-committed i) ∙ q) was-valid x n)
+  old-sources sourced i origin e e' q valid x n =
+      still-source i x origin e' valid (sourced i origin e (sym (same-committed i) ∙ q) was-valid x n)
     where
-      was-valid : ¬ Invalid s i
-      was-valid z = one-or (still-invalid z) (λ d. discarded-origin (rw d at e')) valid
+      was-valid : ¬ Lost s i
+      was-valid z = one-or (still-lost z) (λ d. discarded-origin (rw d at e')) valid
 
-  -- The job's run is right, its guess goes with it, and a new guess has its sources.
-  module _ (run : RunOk s j p) (own : SpeculationOk p u)
-      (new : (origin : Origin) → originOf u ≡ some origin → ¬ Invalid s' j
-      → (x : ℕ) → names (s .uses j x) ≡ true → Source s' j x origin) where
+  -- The job's run is right, and its guess goes with it.
+  module _ (run : RunOk s j p) (own : SpeculationOk p u) where
     -- Every run's values are right still.
     runs' : (i : ℕ) → RunOk s' i (s' .progress i)
     runs' i =
@@ -172,15 +167,24 @@ module _ (s : State) (j : ℕ) (p : Progress) (u : Speculation)
         cases i (committed handed reported mark) r = still-right i handed r
 
     -- The change keeps the invariant.
-    pub change-state-keeps : Invariant s'
-    change-state-keeps = record {
+    change-invariant : Invariant s'
+    change-invariant = record {
       cells-ok = λ x. inv .cells-ok x ∙ sym (same-before (s .jobCount) x);
       orderly = λ i c. still-ready i (inv .orderly i (sym (same-committed i) ∙ c));
       runs = runs';
       speculations = λ i. at-or i j
           (λ e. rw (e, progress-j, speculation-j) own)
           (λ e. rw (progress-other i e, speculation-other i e) (inv .speculations i));
-      sources = λ i origin e q valid x n. at-or i j
+    }
+
+    -- And the sources, where a new guess has its own.
+    pub change-state-keeps : Sourced s
+        → ((origin : Origin) → originOf u ≡ some origin → ¬ Lost s' j
+        → (x : ℕ) → names (s .uses j x) ≡ true → Source s' j x origin)
+        → Carried s'
+    change-state-keeps sourced new = record {
+      right = change-invariant;
+      sourced = λ i origin e q valid x n. at-or i j
           (λ k. rw k (new origin (rw (k, speculation-j) at e) (rw k at valid) x (rw k at n)))
-          (λ k. old-sources i origin (rw (speculation-other i k) at e) e q valid x n);
+          (λ k. old-sources sourced i origin (rw (speculation-other i k) at e) e q valid x n);
     }

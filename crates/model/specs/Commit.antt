@@ -15,8 +15,9 @@ use Rattle.model.specs.State.{writes, maybe, names, mayWrite, wroteCell}
 use Rattle.model.specs.State.{Progress, idle, running, committed, isCommitted, isMarked, effect}
 use Rattle.model.specs.State.{Origin, Speculation, never, out, stored, discarded, originOf, reportAt}
 use Rattle.model.specs.State.{State, effects, before, Committed, Open, Ready, Orderly, Right}
-use Rattle.model.specs.State.{Invalid, bypassed-wrote, source-discarded, source-invalid}
-use Rattle.model.specs.State.{Bypass, Source, forwarded, present, RunOk, SpeculationOk, Invariant}
+use Rattle.model.specs.State.{RunOk, SpeculationOk, Invariant}
+use Rattle.model.specs.FormerRule.{Lost, bypassed-wrote, source-discarded}
+use Rattle.model.specs.FormerRule.{Bypass, Source, forwarded, present, Sourced, Carried}
 use Rattle.model.specs.StateLaws.{written-named, writes-named, write-then-name}
 use Rattle.model.specs.StateLaws.{open-no-effect, unwritten-no-effect, marked-committed}
 use Rattle.model.specs.InvariantLaws.{quiet-from-open}
@@ -145,13 +146,12 @@ module _ (s : State) (j : ℕ) (handed reported : ℕ → ℤ) (mark : Bool)
     speculations' i =
         at-or i j (λ e. rw (e, progress-j) own) (λ e. rw (progress-other i e) (inv .speculations i))
 
-    -- Once fallen, always fallen.
-    still-invalid : {i : ℕ} → Invalid s i → Invalid s' i
-    still-invalid (bypassed-wrote {i = p} e f m) =
+    -- Once lost, always lost.
+    still-lost : {i : ℕ} → Lost s i → Lost s' i
+    still-lost (bypassed-wrote {i = p} e f m) =
         bypassed-wrote e f
         (at-or p j (λ n. clash (marked-committed _ m) (rw n o)) (λ n. rw (progress-other p n) m))
-    still-invalid (source-discarded e f z) = source-discarded e f z
-    still-invalid (source-invalid e f z) = source-invalid e f (still-invalid z)
+    still-lost (source-discarded e f z) = source-discarded e f z
 
     -- A value taken from the guess by which job j is settled is the one that the job reports.
     report-is : (u : Speculation) (x : ℕ) (value : ℤ)
@@ -163,7 +163,7 @@ module _ (s : State) (j : ℕ) (handed reported : ℕ → ℤ) (mark : Bool)
     report-is (stored origin a m) x value (inr ok) e = cc
     report-is discarded x value ok e = cc
 
-    -- A guess that looked past j falls if j is settled with mark 1.
+    -- A guess that looked past j is lost if j is settled with mark 1.
     marked-j : mark ≡ true → isMarked (s' .progress j) ≡ true
     unfolding isMarked
     marked-j m = rw (progress-j, m)
@@ -175,7 +175,7 @@ module _ (s : State) (j : ℕ) (handed reported : ℕ → ℤ) (mark : Bool)
     -- A value that was present stays so: j was looked past and reports mark 0, or does not write the cell.
     still-present : (i x : ℕ) (origin : Origin)
         → originOf (s .speculation i) ≡ some origin
-        → ¬ Invalid s' i
+        → ¬ Lost s' i
         → origin .handed x ≡ before s i x
         → Bypass s i x origin 0
         → Source s' i x origin
@@ -221,11 +221,9 @@ module _ (s : State) (j : ℕ) (handed reported : ℕ → ℤ) (mark : Bool)
             (λ jk. let other = was-open k z .0 in bypass k (omega arith) g w (was-open k z .1))
 
     -- Every source stays, but that j as the source of a value gives way to the cell.
-    sources' : (i : ℕ) (origin : Origin)
-        → originOf (s .speculation i) ≡ some origin → Open s' i → ¬ Invalid s' i
-        → (x : ℕ) → names (s .uses i x) ≡ true → Source s' i x origin
-    sources' i origin e p valid x n =
-        cases (inv .sources i origin e (was-open i p .1) (λ z. valid (still-invalid z)) x n)
+    sources' : Sourced s → Sourced s'
+    sources' sourced i origin e p valid x n =
+        cases (sourced i origin e (was-open i p .1) (λ z. valid (still-lost z)) x n)
       where
         cases : Source s i x origin → Source s' i x origin
         cases (present value bypass) = still-present i x origin e valid value bypass
@@ -235,12 +233,9 @@ module _ (s : State) (j : ℕ) (handed reported : ℕ → ℤ) (mark : Bool)
             (λ n. now-present i x origin (rw n at b) (rw n at a) (rw n at report) (rw n at bypass))
             (λ n. forwarded w from b a report (rw (progress-other w n) unsettled) bypass')
 
-    -- The commit keeps the invariant.
-    pub commit-state-keeps : Invariant s'
-    commit-state-keeps = record {
-      cells-ok = cells-ok';
-      orderly = orderly';
-      runs = runs';
-      speculations = speculations';
-      sources = sources';
-    }
+    -- The commit keeps the invariant, and the sources.
+    commit-invariant : Invariant s'
+    commit-invariant = record { cells-ok = cells-ok'; orderly = orderly'; runs = runs'; speculations = speculations' }
+
+    pub commit-state-keeps : Sourced s → Carried s'
+    commit-state-keeps sourced = record { right = commit-invariant; sourced = sources' sourced }

@@ -11,8 +11,9 @@ use Rattle.model.specs.Column.{after-agree}
 use Rattle.model.specs.State.{Use, Progress, idle, running, committed}
 use Rattle.model.specs.State.{Origin, never, originOf}
 use Rattle.model.specs.State.{State, effects, before, Committed, Ready, Right}
-use Rattle.model.specs.State.{Invalid, bypassed-wrote, source-discarded, source-invalid}
-use Rattle.model.specs.State.{Bypass, Source, forwarded, present, RunOk, Invariant}
+use Rattle.model.specs.State.{RunOk, Invariant}
+use Rattle.model.specs.FormerRule.{Lost, bypassed-wrote, source-discarded}
+use Rattle.model.specs.FormerRule.{Bypass, Source, forwarded, present, Sourced, Carried}
 use Rattle.model.specs.StateLaws.{open-no-effect, idle-open}
 
 -- From the job count on nothing has been done.
@@ -89,10 +90,9 @@ module _ (s : State) (job : ℕ → Use) (inv : Invariant s) (blank : Blank s) w
       cases l (committed handed reported mark) r = still-right j handed l r
 
   -- A guess that has fallen has fallen still.
-  still-invalid : {j : ℕ} → Invalid s j → Invalid s' j
-  still-invalid (bypassed-wrote e f m) = bypassed-wrote e f m
-  still-invalid (source-discarded e f z) = source-discarded e f z
-  still-invalid (source-invalid e f z) = source-invalid e f (still-invalid z)
+  still-lost : {j : ℕ} → Lost s j → Lost s' j
+  still-lost (bypassed-wrote e f m) = bypassed-wrote e f m
+  still-lost (source-discarded e f z) = source-discarded e f z
 
   still-bypass : (j x : ℕ) (origin : Origin) (first : ℕ)
       → j < s .jobCount → Bypass s j x origin first → Bypass s' j x origin first
@@ -106,14 +106,18 @@ module _ (s : State) (job : ℕ → Use) (inv : Invariant s) (blank : Blank s) w
       forwarded w from b (rw (uses-below w (omega arith)) a) report unsettled
       (still-bypass j x origin (suc w) l bypass)
 
-  -- The insert keeps the invariant.
-  pub insert-keeps : Invariant s'
-  insert-keeps = record {
+  -- The insert keeps the invariant, and the sources.
+  insert-invariant : Invariant s'
+  insert-invariant = record {
     cells-ok = cells-ok';
     orderly = λ j c. still-ready j (committed-below j c) (inv .orderly j c);
     runs = runs';
     speculations = inv .speculations;
-    sources = λ j origin e o valid x n. let l = origin-below j origin e in
-        still-source j x origin l
-        (inv .sources j origin e o (λ z. valid (still-invalid z)) x (rw (uses-below j l) at n));
+  }
+
+  pub insert-keeps : Sourced s → Carried s'
+  insert-keeps sourced = record {
+    right = insert-invariant;
+    sourced = λ j origin e o valid x n. let l = origin-below j origin e in
+        still-source j x origin l (sourced j origin e o (λ z. valid (still-lost z)) x (rw (uses-below j l) at n));
   }

@@ -1,16 +1,16 @@
--- What the invariant says of an open job: its present cells are right, and so is a guess that stands.
+-- What the invariant says of an open job: its present cells are right, and so is a guess that was handed them.
 use Prim.Native.Nat.{ℕ, _≤_, _<_}
 use native.Mathlib.Omega.{arith}
 use mathlib.Core.Path.{_≡_, _∙_}
-use mathlib.Core.Option.{none, some}
+use mathlib.Core.Option.{none}
 use mathlib.Core.Bool.{true}
+use lib.IntN.{ℤ}
 use Rattle.laws.specs.SearchLaws.{if-or}
 use Rattle.model.specs.Cases.{at-or}
 use Rattle.model.specs.Column.{after-quiet}
-use Rattle.model.specs.State.{names, mayWrite, isCommitted, Origin, originOf, State, effects, before}
-use Rattle.model.specs.State.{Committed, Open, Ready, Orderly, Right, Invalid}
-use Rattle.model.specs.State.{Source, forwarded, present, Invariant}
-use Rattle.model.specs.StateLaws.{write-then-name, name-then-write, writes-may}
+use Rattle.model.specs.State.{names, mayWrite, isCommitted, State, effects, before}
+use Rattle.model.specs.State.{Committed, Open, Orderly, Right, Matches, Invariant}
+use Rattle.model.specs.StateLaws.{name-then-write}
 use Rattle.model.specs.StateLaws.{open-no-effect, unwritten-no-effect}
 
 -- From an open job on, no job has an effect on a cell that it names: a later one that may write the cell is not
@@ -41,13 +41,8 @@ present-is-before s inv j x l o n =
     quiet : (i : ℕ) → j ≤ i → i < s .jobCount → effects s x i ≡ none
     quiet i b _ = quiet-from-open s j x i (inv .orderly) o n b
 
--- A ready job's guess that has not fallen was handed what the jobs before it left: why a guess that stands (R44) is right.
-pub valid-is-right : (s : State) → Invariant s → (j : ℕ) (origin : Origin)
-    → originOf (s .speculation j) ≡ some origin → Open s j → Ready s j → ¬ Invalid s j → Right s j (origin .handed)
-valid-is-right s inv j origin e o ready valid x n = cases (inv .sources j origin e o valid x n)
-  where
-    cases : Source s j x origin → origin .handed x ≡ before s j x
-    cases (present right bypass) = right
-    -- a writer that is open still: then the job is not ready
-    cases (forwarded w from l a report unsettled bypass) =
-        let settled : Committed s w = ready w x l (write-then-name _ _ (writes-may a) n) in cc
+-- So a guess that was handed the present heights was handed what the jobs before it left: why one that stands (R43) is right.
+-- Where its values came from need not be known.
+pub matches-is-right : (s : State) → Invariant s → (j : ℕ) (handed : ℕ → ℤ)
+    → j < s .jobCount → Open s j → Matches s j handed → Right s j handed
+matches-is-right s inv j handed l o matches x n = matches x n ∙ present-is-before s inv j x l o n

@@ -4,6 +4,7 @@ pub mod Column
 pub mod State
 pub mod StateLaws
 pub mod InvariantLaws
+pub mod FormerRule
 pub mod Commit
 pub mod Change
 pub mod Walk

@@ -1,7 +1,7 @@
 -- A batch as the theorem sees it, and what holds of it at every moment. Everything is a function of the job's number
 -- or the cell's number: a value handed or reported is looked up by cell, not by its place among a job's accesses, and
 -- only at the cells that the job names does it mean anything.
-use Prim.Native.Nat.{ℕ, suc, _≤_, _<_}
+use Prim.Native.Nat.{ℕ, _<_}
 use mathlib.Core.Path.{_≡_}
 use mathlib.Core.Logic.{_⊎_}
 use mathlib.Core.Option.{Option, none, some}
@@ -71,8 +71,8 @@ effect mode x idle = none
 effect mode x (running handed) = none
 effect mode x (committed handed reported mark) = given (wroteCell mode mark) (reported x)
 
--- Where a guess comes from: the values handed to it, the jobs it looked past, and for each cell the job from whose
--- guess the value was taken, or none for the present cell.
+-- Where a guess comes from: the values handed to it, and, for the former rule alone, the jobs it looked past and for each
+-- cell the job from whose guess the value was taken, or none for the present cell.
 pub record Origin : Type 0 where
   pub handed : ℕ → ℤ
   pub bypassed : ℕ → Bool
@@ -139,44 +139,9 @@ Orderly s = (j : ℕ) → Committed s j → Ready s j
 abbrev pub Right : State → ℕ → (ℕ → ℤ) → Type 0
 Right s j handed = (x : ℕ) → names (s .uses j x) ≡ true → handed x ≡ before s j x
 
--- R43: fallen.
-pub data Invalid (s : State) : ℕ → Type 0 where
-  bypassed-wrote : {j i : ℕ} {origin : Origin}
-      → originOf (s .speculation j) ≡ some origin
-      → origin .bypassed i ≡ true
-      → isMarked (s .progress i) ≡ true
-      → Invalid s j
-  source-discarded : {j w x : ℕ} {origin : Origin}
-      → originOf (s .speculation j) ≡ some origin
-      → origin .source x ≡ some w
-      → s .speculation w ≡ discarded
-      → Invalid s j
-  source-invalid : {j w x : ℕ} {origin : Origin}
-      → originOf (s .speculation j) ≡ some origin
-      → origin .source x ≡ some w
-      → Invalid s w
-      → Invalid s j
-
--- From job `first` on, each open job before j that may write cell x is a maybe-writer of it and was looked past. It
--- is kept for each cell, since a job may surely write one cell and maybe-write another.
-abbrev pub Bypass : State → ℕ → ℕ → Origin → ℕ → Type 0
-Bypass s j x origin first =
-    (i : ℕ) → first ≤ i → i < j → mayWrite (s .uses i x) ≡ true → Open s i
-    → (s .uses i x ≡ maybe) × (origin .bypassed i ≡ true)
-
--- Where the value that job j's guess was handed at cell x stands now. Forwarded: it is the stored report of an open
--- writer w, and what may write between w and j was looked past. Present: it is what the jobs before j left, and what
--- may still write before j was looked past. When w is settled by its guess, the first becomes the second.
-pub data Source (s : State) (j x : ℕ) (origin : Origin) : Type 0 where
-  forwarded : (w : ℕ)
-      → origin .source x ≡ some w
-      → w < j
-      → s .uses w x ≡ writes
-      → reportAt (s .speculation w) x ≡ some (origin .handed x)
-      → Open s w
-      → Bypass s j x origin (suc w)
-      → Source s j x origin
-  present : origin .handed x ≡ before s j x → Bypass s j x origin 0 → Source s j x origin
+-- These values, at the cells that job j names, are the present ones. So a guess that stands was handed them (R43).
+abbrev pub Matches : State → ℕ → (ℕ → ℤ) → Type 0
+Matches s j handed = (x : ℕ) → names (s .uses j x) ≡ true → handed x ≡ s .cells x
 
 -- What holds of a job's run: an own run that is out belongs to a ready job, and it, as every counted run, was handed
 -- what the jobs before left.
@@ -205,9 +170,3 @@ pub record Invariant (s : State) : Type 0 where
   pub runs : (j : ℕ) → RunOk s j (s .progress j)
   -- every guess goes with its job
   pub speculations : (j : ℕ) → SpeculationOk (s .progress j) (s .speculation j)
-  -- every value of an open job's guess has a source, unless the guess has fallen
-  pub sources : (j : ℕ) (origin : Origin)
-      → originOf (s .speculation j) ≡ some origin
-      → Open s j
-      → ¬ Invalid s j
-      → (x : ℕ) → names (s .uses j x) ≡ true → Source s j x origin

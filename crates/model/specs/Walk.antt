@@ -8,7 +8,8 @@ use lib.IntN.{ℤ}
 use Rattle.laws.specs.SearchLaws.{clash}
 use Rattle.model.specs.Cases.{at-or, none-some}
 use Rattle.model.specs.State.{Use, absent, reads, writes, maybe, names, mayWrite, isCommitted, Origin, reportAt}
-use Rattle.model.specs.State.{State, Open, Bypass, Source, forwarded, present, Invariant}
+use Rattle.model.specs.State.{State, Open, Invariant}
+use Rattle.model.specs.FormerRule.{Bypass, Source, forwarded, present}
 use Rattle.model.specs.InvariantLaws.{present-is-before}
 
 -- The walk at job i, which is settled or not and does this with the cell: it stops at an open writer, and goes on to

@@ -4,12 +4,13 @@ use native.Mathlib.Omega.{arith}
 use native.Mathlib.Numerals.{add-one}
 use mathlib.Core.Logic.{_≢_}
 use mathlib.Core.Bool.{true, not}
-use mathlib.Core.Path.{_≡_, sym, ap, _∙_}
+use mathlib.Core.Path.{_≡_, refl, sym, ap, _∙_}
 use lib.IntN.{pos}
 use lib.ListN.{getD, replicate}
 use lib.Seq.{getD-set-same, getD-set-other}
 use Rattle.dependence.specs.declared.Job.{Job}
 use Rattle.dependence.specs.Job.{noJob, jobAt}
+use Rattle.rules.specs.Values.{valueAt}
 use Rattle.rules.specs.Snapshot.{Snapshot, isLive}
 use Rattle.rules.specs.Speculation.{validity}
 use Rattle.rules.specs.Call.{insert, startOwn}
@@ -20,16 +21,23 @@ use Rattle.engine.specs.OpeningLaws.{insert-place}
 use Rattle.engine.specs.Ask.{shownJob, askedJob, cellRefusal, askedCell, isFinished, askedBatch}
 use Rattle.engine.specs.AskLaws.{finished-means, gains-unfinished}
 use Rattle.engine.specs.Perform.{perform}
-use Rattle.claims.specs.Ledger.{Ledger, Entry, noEntry, isCounted, ownIsOut, guessPhase, snapshotOfLedger, enter}
+use Rattle.claims.specs.Ledger.{Ledger, Entry, noEntry, isCounted, ownIsOut, guessPhase}
+use Rattle.claims.specs.Enter.{snapshotOfLedger, enter}
 use Rattle.claims.specs.Trace.{batchOf}
 use Rattle.claims.specs.Added.{grown, untried, Added, AddedStatement}
 use Rattle.theorem.specs.Effect.{accepted-leaves}
-use Rattle.theorem.specs.SameRefusal.{withJobs, validity-same}
+use Rattle.theorem.specs.SameRefusal.{withHeld, validity-same}
 use Rattle.theorem.specs.Faithful.{Faithful, faithful-form, same-snapshot}
 use Rattle.theorem.specs.Agreement.{inserted-kept}
+use Rattle.theorem.specs.Replayed.{Replayed, cells-are-replayed}
 use Rattle.theorem.specs.Promises.{settled-counted, own-may-start}
 use Rattle.theorem.specs.AsAsked.{asked-job}
+use Rattle.theorem.specs.Right.{Sound, insert-right}
 use Rattle.theorem.specs.Always.{sound-always}
+
+-- A record that agrees with its ledger, as the rules read it: by the ledger, but for jobs and cells.
+abbrev pub seenIn : Batch → Ledger → Snapshot
+seenIn b l = withHeld (snapshotOfLedger l) (l .jobCount) (λ i. jobAt (b .jobs) i) (λ x. valueAt (b .cells) x)
 
 module _ {b : Batch} {l : Ledger} (agree : Faithful b l) (job : Job) (e : insertRefusal b job ≡ 0) where
   -- The record and the ledger agree after the insert too.
@@ -67,16 +75,13 @@ module _ {b : Batch} {l : Ledger} (agree : Faithful b l) (job : Job) (e : insert
 
   -- What does not depend on the number of jobs, nor on those past the ledger's, is as it was.
   pub unnoticed : {A : Type 0} (f : Snapshot → A)
-      → ((count : ℕ) (g : ℕ → Job) → l .jobCount ≤ count → ((i : ℕ) → i < l .jobCount → l .job i ≡ g i)
-      → f (snapshotOfLedger l) ≡ f (withJobs (snapshotOfLedger l) count g))
+      → ((count : ℕ) (g : ℕ → Job) → l .jobCount ≤ count → ((i : ℕ) → i < l .jobCount → jobAt (b .jobs) i ≡ g i)
+      → f (seenIn b l) ≡ f (withHeld (seenIn b l) count g (seenIn b l .cells)))
       → f (snapshotOf (withInserted b job)) ≡ f (snapshotOf b)
-  unfolding enter
+  unfolding enter withInserted
   unnoticed f depends =
       ap f (same-snapshot agrees-after)
-      ∙ sym
-      (depends (suc (l .jobCount)) (λ i. jobAt (withInserted b job .jobs) i) (omega arith)
-      (λ i h. sym (same-job i h ∙ agree .jobs-are i h)))
-      ∙ depends (l .jobCount) (λ i. jobAt (b .jobs) i) (omega arith) (λ i h. sym (agree .jobs-are i h))
+      ∙ sym (depends (suc (l .jobCount)) (λ i. jobAt (withInserted b job .jobs) i) (omega arith) (λ i h. sym (same-job i h)))
       ∙ sym (ap f (same-snapshot agree))
 
   -- R179: the batch has one job more, and is not finished.
@@ -106,7 +111,7 @@ module _ {b : Batch} {l : Ledger} (agree : Faithful b l) (job : Job) (e : insert
   -- An earlier job is shown as it was.
   old-validity : (j : ℕ) → j < l .jobCount → validity (snapshotOf (withInserted b job)) j ≡ validity (snapshotOf b) j
   old-validity j h =
-      unnoticed (λ s. validity s j) (λ count g more same. validity-same (snapshotOfLedger l) count g same j h)
+      unnoticed (λ s. validity s j) (λ count g more same. validity-same (seenIn b l) count g (seenIn b l .cells) same j h (λ x. refl))
 
   old-job : (j : ℕ) → j < l .jobCount → shownJob (withInserted b job) j ≡ shownJob b j
   unfolding shownJob
@@ -128,12 +133,13 @@ module _ {b : Batch} {l : Ledger} (agree : Faithful b l) (job : Job) (e : insert
   count-told = rw (faithful-form agree) (agree .job-count)
 
   -- R181: where all others are settled, its own run may be started.
-  starts : isFinished b ≡ true → perform (withInserted b job) (startOwn (l .jobCount)) .refusal ≡ 0
+  starts : Replayed (withInserted b job) (enter l (insert job) (replicate 4 (pos 0))) → isFinished b ≡ true
+      → perform (withInserted b job) (startOwn (l .jobCount)) .refusal ≡ 0
   unfolding enter
-  starts finished =
+  starts replayed finished =
       let f = finished-means b finished in
       let new : l .entry (l .jobCount) ≡ noEntry = agree .nothing-beyond (l .jobCount) (omega arith) in
-      own-may-start agrees-after
+      own-may-start agrees-after replayed
       (sym (ap (λ (s : Snapshot). s .sealed) (same-snapshot agree)) ∙ ap not (f .is-sealed))
       (l .jobCount) (omega arith)
       (ap isCounted new)
@@ -141,9 +147,9 @@ module _ {b : Batch} {l : Ledger} (agree : Faithful b l) (job : Job) (e : insert
       (ap ownIsOut new)
       (ap (λ (n : Entry). isLive (guessPhase (n .guess))) new)
 
-  added : Added job b (withInserted b job)
+  added : Replayed (withInserted b job) (enter l (insert job) (replicate 4 (pos 0))) → Added job b (withInserted b job)
   unfolding enter
-  added =
+  added replayed =
       record {
         grows = grows;
         as-given =
@@ -155,10 +161,19 @@ module _ {b : Batch} {l : Ledger} (agree : Faithful b l) (job : Job) (e : insert
             asked-job agrees-after j (omega arith) ∙ old-job j held ∙ sym (asked-job agree j held);
         cells-stay = old-cell;
         next-step = λ t.
-            ap (λ (n : ℕ). perform (withInserted b job) (startOwn n) .refusal) count-told ∙ starts (sym finished-told ∙ t);
+            ap (λ (n : ℕ). perform (withInserted b job) (startOwn n) .refusal) count-told ∙ starts replayed (sym finished-told ∙ t);
       }
+
+-- The cells are those of the insertion-order run after the insert too.
+replayed-after : {b : Batch} {l : Ledger} → Sound b l → (job : Job) → insertRefusal b job ≡ 0
+    → Replayed (withInserted b job) (enter l (insert job) (replicate 4 (pos 0)))
+unfolding withInserted
+replayed-after sound job e =
+    cells-are-replayed (agrees-after (sound .agree) job e) (insert-right sound job (replicate 4 (pos 0)) .right)
 
 pub job-added : AddedStatement
 unfolding perform inserted
 job-added heights calls e job accepted =
-    rw (accepted-leaves (batchOf heights calls) (insert job) accepted) (added (sound-always heights calls e .agree) job accepted)
+    let sound = sound-always heights calls e in
+    rw (accepted-leaves (batchOf heights calls) (insert job) accepted)
+    (added (sound .agree) job accepted (replayed-after sound job accepted))

@@ -19,7 +19,8 @@ use Rattle.engine.specs.Record.{noRun, blankRun}
 use Rattle.engine.specs.Opening.{fresh, padded, openRefused, opened, inserted, sealedWith}
 use Rattle.engine.specs.Steps.{startedOwn, startedSpeculation, reportedOwn, reportedSpeculation, committedBy}
 use Rattle.engine.specs.Perform.{perform}
-use Rattle.claims.specs.Ledger.{Ledger, noEntry, emptyLedger, enter}
+use Rattle.claims.specs.Ledger.{Ledger, noEntry, emptyLedger}
+use Rattle.claims.specs.Enter.{enter}
 use Rattle.theorem.specs.Faithful.{untouched, FaithfulJob, Faithful}
 use Rattle.theorem.specs.Agreement.{moved, blank-job, inserted-kept, sealed-kept}
 use Rattle.theorem.specs.StepAgreement.{own-started-kept, speculation-started-kept, own-reported-kept, speculation-reported-kept, committed-kept}

@@ -28,7 +28,8 @@ use Rattle.engine.specs.declared.Batch.{Batch}
 use Rattle.engine.specs.Record.{noRun, blankRun, snapshotOf}
 use Rattle.engine.specs.Opening.{refusalOn, withInserted, insertRefusal, withSealed, sealRefusal}
 use Rattle.engine.specs.Steps.{withJobChanged}
-use Rattle.claims.specs.Ledger.{Counted, GuessEntry, Entry, noEntry, Ledger, stepEntered, enter}
+use Rattle.claims.specs.Ledger.{Counted, GuessEntry, Entry, noEntry, Ledger}
+use Rattle.claims.specs.Enter.{stepEntered, enter}
 use Rattle.theorem.specs.Faithful.{untouched, FaithfulJob, Faithful, faithful-form}
 use Rattle.theorem.specs.Kept.{zero-sources}
 use Rattle.theorem.specs.Update.{at-or, update-same, update-other, set-same}

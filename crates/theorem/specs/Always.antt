@@ -14,9 +14,10 @@ use Rattle.engine.specs.declared.Batch.{Batch}
 use Rattle.engine.specs.Opening.{padded, openRefused, opened, inserted, sealedWith}
 use Rattle.engine.specs.Steps.{startedOwn, startedSpeculation, reportedOwn, reportedSpeculation, committedBy}
 use Rattle.engine.specs.Perform.{perform}
-use Rattle.model.specs.State.{Invariant}
-use Rattle.model.specs.Opening.{opening-invariant}
-use Rattle.claims.specs.Ledger.{Ledger, emptyLedger, enter}
+use Rattle.model.specs.FormerRule.{Carried}
+use Rattle.model.specs.Opening.{opening-carried}
+use Rattle.claims.specs.Ledger.{Ledger, emptyLedger}
+use Rattle.claims.specs.Enter.{enter}
 use Rattle.claims.specs.Trace.{eventOf, eventsOf, batchAfter, recorded, ledgerAfter, batchOf, ledgerOf}
 use Rattle.theorem.specs.Effect.{refused-stays}
 use Rattle.theorem.specs.After.{accepted-keeps, opened-faithful}
@@ -89,7 +90,7 @@ call-sound {b} {l} sound call =
     accepted e =
         record {
           agree = accepted-keeps (sound .agree) call e;
-          right = accepted-right sound call e;
+          carried = accepted-right sound call e;
           shaped = accepted-shaped sound call e;
         }
 
@@ -116,14 +117,14 @@ appended-zeros [] rest zero-at x = zero-at x
 appended-zeros (h ∷ heights) rest zero-at zero = refl
 appended-zeros (h ∷ heights) rest zero-at (suc x) = appended-zeros heights rest zero-at x
 
-fresh-right : (heights : List ℤ) → Invariant (stateOf (emptyLedger heights) (padded heights))
+fresh-right : (heights : List ℤ) → Carried (stateOf (emptyLedger heights) (padded heights))
 unfolding progressFrom speculationOf
 fresh-right heights =
-    opening-invariant (stateOf (emptyLedger heights) (padded heights)) refl (λ j h. (refl, refl))
+    opening-carried (stateOf (emptyLedger heights) (padded heights)) refl (λ j h. (refl, refl))
     (appended-zeros heights (drop (length heights) (replicate 64 (pos 0))) (zeros 64 (length heights)))
 
 opened-right : (heights : List ℤ) → opened heights .refusal ≡ 0
-    → Invariant (stateOf (emptyLedger heights) (opened heights .batch .cells))
+    → Carried (stateOf (emptyLedger heights) (opened heights .batch .cells))
 unfolding opened
 opened-right heights e =
     if-or (openRefused heights)
@@ -134,7 +135,7 @@ pub opened-sound : (heights : List ℤ) → opened heights .refusal ≡ 0 → So
 opened-sound heights e =
     record {
       agree = opened-faithful heights e;
-      right = opened-right heights e;
+      carried = opened-right heights e;
       shaped = λ j. nothing-shaped (emptyLedger heights .job j);
     }
 

@@ -27,7 +27,8 @@ use Rattle.engine.specs.Record.{runAt}
 use Rattle.bypass.specs.Bypass.{toldOf, bypassedIn, openAt, askedSpeculation}
 use Rattle.bypass.specs.BypassLaws.{told-same, asked-held}
 use Rattle.claims.specs.Ledger.{Report, Counted, GuessEntry, never, entered, reported, struck, Entry, Ledger}
-use Rattle.claims.specs.Ledger.{isCounted, guessPhase, guessBypassed, snapshotOfLedger, struckOut, withReport, stepEntered, enter}
+use Rattle.claims.specs.Ledger.{isCounted, guessPhase, guessBypassed}
+use Rattle.claims.specs.Enter.{snapshotOfLedger, struckOut, withReport, stepEntered, enter}
 use Rattle.claims.specs.Trace.{eventsOf, ledgerAfter}
 use Rattle.claims.specs.Bypassed.{isBypassed, isOpen, GuessToldStatement}
 use Rattle.model.specs.Cases.{below-or}

@@ -21,7 +21,7 @@ use Rattle.engine.specs.Form.{inForm}
 use Rattle.engine.specs.Opening.{insertRefusal, withInserted, inserted, withSealed}
 use Rattle.engine.specs.Steps.{withJobChanged, speculativeAt, speculativeValues, sourcesNow}
 use Rattle.engine.specs.Perform.{perform}
-use Rattle.claims.specs.Ledger.{Ledger, snapshotOfLedger}
+use Rattle.claims.specs.Ledger.{Ledger}
 use Rattle.claims.specs.Added.{Earlier, seal-call, own-start, speculation-start, own-report, speculation-report, commit-step}
 use Rattle.claims.specs.Added.{Exchange, ExchangeStatement}
 use Rattle.theorem.specs.Effect.{effect, accepts, handedBy, zeros, refusal-in-form, performed-batch, performed-handed, accepted-leaves}
@@ -30,7 +30,7 @@ use Rattle.theorem.specs.SameRefusal.{HeldAlike, source-same, bypassed-s
 use Rattle.theorem.specs.Faithful.{Faithful, faithful-form}
 use Rattle.theorem.specs.StepAgreement.{source-now-limit}
 use Rattle.theorem.specs.Added.{agrees-after, elsewhere, same-job, same-run, same-committed, same-running}
-use Rattle.theorem.specs.Added.{same-phase, unnoticed}
+use Rattle.theorem.specs.Added.{same-phase, seenIn, unnoticed}
 use Rattle.theorem.specs.Right.{Sound}
 use Rattle.theorem.specs.Always.{call-sound, sound-always}
 
@@ -64,18 +64,18 @@ module _ {b : Batch} {l : Ledger} (agree : Faithful b l) (job : Job) (e : insert
   refused-alike {call} earlier =
       refusal-in-form (withInserted b job) call (faithful-form (agrees-after agree job e))
       ∙ unnoticed agree job e (λ s. refusalOf s call)
-      (λ count g more same. same-refusal (snapshotOfLedger l) count g same call (earlier-held more earlier))
+      (λ count g more same. same-refusal (seenIn b l) count g (seenIn b l .cells) same (λ x. refl) call (earlier-held more earlier))
       ∙ sym (refusal-in-form b call (faithful-form agree))
 
   -- A guess of an earlier job takes from the same jobs, and looks past the same ones.
   module _ (j : ℕ) (h : j < l .jobCount) where
     same-source : (place : ℕ) → sourceNow (snapshotOf (withInserted b job)) j place ≡ sourceNow (snapshotOf b) j place
     same-source place =
-        unnoticed agree job e (λ s. sourceNow s j place) (λ count g more same. source-same (snapshotOfLedger l) count g same j h place)
+        unnoticed agree job e (λ s. sourceNow s j place) (λ count g more same. source-same (seenIn b l) count g (seenIn b l .cells) same j h place)
 
     same-bypassed : bypassedNow (snapshotOf (withInserted b job)) j ≡ bypassedNow (snapshotOf b) j
     same-bypassed = λ k i.
-        unnoticed agree job e (λ s. bypassedNow s j i) (λ count g more same. bypassed-same (snapshotOfLedger l) count g same j h i) k
+        unnoticed agree job e (λ s. bypassedNow s j i) (λ count g more same. bypassed-same (seenIn b l) count g (seenIn b l .cells) same j h i) k
 
     same-sources : sourcesNow (withInserted b job) j ≡ sourcesNow b j
     same-sources = rw (same-source 0, same-source 1, same-source 2, same-source 3)

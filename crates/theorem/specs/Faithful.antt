@@ -1,12 +1,12 @@
 -- The record and the ledger agree: what that means, and what follows at once.
 use Prim.Native.Nat.{ℕ, _<_, _≤_}
 use native.Mathlib.Omega.{arith}
-use mathlib.Core.Bool.{Bool, true, false, not, _&&_}
+use mathlib.Core.Bool.{Bool, true, false, cond, not}
 use mathlib.Core.List.{List}
 use mathlib.Core.Option.{none, some}
 use mathlib.Core.Path.{_≡_, refl, ap, _∙_}
 use lib.Dec.{eqb}
-use lib.IntN.{ℤ}
+use lib.IntN.{ℤ, pos}
 use lib.ListN.{length, getD}
 use borrow.Author.Tests.{ne-eqb, le-ltb}
 use Rattle.laws.specs.SearchLaws.{any-absent, clash}
@@ -18,15 +18,17 @@ use Rattle.dependence.specs.Ready.{isCommitted}
 use Rattle.admission.specs.Admission.{jobRefusal}
 use Rattle.jobset.specs.JobSet.{hasJob}
 use Rattle.jobset.specs.JobSetLaws.{not-reaches}
-use Rattle.rules.specs.Values.{storedValues}
+use Rattle.rules.specs.Values.{valueAt, storedValues}
+use Rattle.rules.specs.Snapshot.{isLive}
 use Rattle.model.specs.Cases.{below-or}
 use Rattle.engine.specs.declared.Run.{Run}
 use Rattle.engine.specs.declared.Batch.{Batch}
 use Rattle.engine.specs.Record.{runAt, snapshotOf}
 use Rattle.engine.specs.Form.{countsOut, statesOut, sourceLate, originsOut, jobOut, inForm}
 use Rattle.claims.specs.Ledger.{Report, Guess, GuessEntry, never, entered, reported, struck, Entry, noEntry, Ledger}
-use Rattle.claims.specs.Ledger.{isSome, isCounted, countedMark, ownIsOut, guessPhase, guessBypassed, guessSource, switchIsOn, snapshotOfLedger}
-use Rattle.theorem.specs.SameRefusal.{withJobs}
+use Rattle.claims.specs.Ledger.{isSome, isCounted, ownIsOut, guessPhase, guessBypassed, guessSource, guessHanded, switchIsOn}
+use Rattle.claims.specs.Enter.{snapshotOfLedger}
+use Rattle.theorem.specs.SameRefusal.{withHeld}
 
 -- A job whose own run was started has no guess any more: none was started, or it was struck out.
 pub data GuessGone : GuessEntry → ℕ → Type 0 where
@@ -114,16 +116,6 @@ module _ {job : Job} where
   stage-committed (own-counted g stored s) = refl
   stage-committed (guess-counted stored) = refl
 
-  -- The record's mark of a settled job is 1 where the counted report's is.
-  pub stage-wrote : {e : Entry} {run : Run} {c r p : ℕ} → Stage job e run c r p
-      → (isCommitted c && eqb (run .wrote) 1) ≡ countedMark (e .counted)
-  stage-wrote untouched = refl
-  stage-wrote (guess-out h) = refl
-  stage-wrote (guess-reported stored) = refl
-  stage-wrote (own-out g h s) = refl
-  stage-wrote (own-counted g stored s) = rw (stored .wrote-is)
-  stage-wrote (guess-counted stored) = rw (stored .wrote-is)
-
   -- The record's state says that the own run is out where the ledger has one that is not counted.
   pub stage-running : {e : Entry} {run : Run} {c r p : ℕ} → Stage job e run c r p → not (eqb r 0) ≡ ownIsOut e
   stage-running untouched = refl
@@ -143,6 +135,18 @@ module _ {job : Job} where
   stage-phase (own-counted never-started stored s) = refl
   stage-phase (own-counted struck-out stored s) = refl
   stage-phase (guess-counted stored) = refl
+
+  -- The values in its run are those handed to the ledger's guess, while there is one.
+  pub stage-handed : {e : Entry} {run : Run} {c r p : ℕ} → Stage job e run c r p
+      → (place : ℕ) → cond (isLive p) (valueAt (run .handed) place) (pos 0) ≡ guessHanded (e .guess) place
+  stage-handed untouched place = refl
+  stage-handed (guess-out h) place = ap (λ (values : List ℤ). valueAt values place) h
+  stage-handed (guess-reported stored) place = ap (λ (values : List ℤ). valueAt values place) (stored .handed-is)
+  stage-handed (own-out never-started h s) place = refl
+  stage-handed (own-out struck-out h s) place = refl
+  stage-handed (own-counted never-started stored s) place = refl
+  stage-handed (own-counted struck-out stored s) place = refl
+  stage-handed (guess-counted stored) place = ap (λ (values : List ℤ). valueAt values place) (stored .handed-is)
 
   -- The states are in their lists.
   pub stage-limits : {e : Entry} {run : Run} {c r p : ℕ} → Stage job e run c r p → (c ≤ 2) × (r ≤ 1) × (p ≤ 3)
@@ -229,19 +233,19 @@ module _ {b : Batch} {l : Ledger} (agree : Faithful b l) where
   unfolding inForm
   faithful-form = rw (all-counts-in, any-absent (b .«job_count») (jobOut b) job-in)
 
-  -- The rules read the same of both, but for places that hold no job.
-  pub same-snapshot : snapshotOf b ≡ withJobs (snapshotOfLedger l) (l .jobCount) (λ j. jobAt (b .jobs) j)
+  -- The rules read the same of both, but for places that hold no job, and for the cells: the ledger's are the insertion-order
+  -- run's, and that the record's are the same is what the invariant is for.
+  pub same-snapshot : snapshotOf b ≡ withHeld (snapshotOfLedger l) (l .jobCount) (λ j. jobAt (b .jobs) j) (λ x. valueAt (b .cells) x)
   same-snapshot = λ i.
       record {
         cellCount = agree .cell-count i;
         jobCount = agree .job-count i;
         sealed = (ap (λ (n : ℕ). not (eqb n 0)) (agree .sealed-is) ∙ flag-test (isSome (l .switch))) i;
         speculating = (ap (λ (n : ℕ). not (eqb n 0)) (agree .speculating-is) ∙ flag-test (switchIsOn (l .switch))) i;
+        cells = λ x. valueAt (b .cells) x;
         job = λ j. jobAt (b .jobs) j;
         committed = λ j. stage-committed (agree .job-is j .stage) i;
-        wrote = λ j. stage-wrote (agree .job-is j .stage) i;
         running = λ j. stage-running (agree .job-is j .stage) i;
         phase = λ j. stage-phase (agree .job-is j .stage) i;
-        bypassed = λ j k. agree .job-is j .bypassed-are k i;
-        source = λ j place. agree .job-is j .sources-are place i;
+        handed = λ j place. stage-handed (agree .job-is j .stage) place i;
       }

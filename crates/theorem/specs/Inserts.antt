@@ -11,7 +11,8 @@ use Rattle.dependence.specs.declared.Job.{Job}
 use Rattle.dependence.specs.Job.{noJob, jobAt}
 use Rattle.rules.specs.Call.{Call, insert, seal, startOwn, startSpeculation, reportOwn, reportSpeculation, commit}
 use Rattle.engine.specs.Opening.{opened}
-use Rattle.claims.specs.Ledger.{Ledger, enter}
+use Rattle.claims.specs.Ledger.{Ledger}
+use Rattle.claims.specs.Enter.{enter}
 use Rattle.claims.specs.Trace.{Event, eventsOf, recorded, ledgerAfter, ledgerOf}
 use Rattle.claims.specs.SameEnd.{SameJob, SameJobs}
 use Rattle.claims.specs.Inserts.{jobOf, jobsOf, JobsAre, insertsOf, InsertsStatement, SameInsertsStatement}

@@ -9,7 +9,8 @@ use Rattle.dependence.specs.declared.Job.{Job}
 use Rattle.rules.specs.Call.{Call, insert, seal, startOwn, startSpeculation, reportOwn, reportSpeculation, commit}
 use Rattle.engine.specs.declared.Batch.{Batch}
 use Rattle.engine.specs.Perform.{perform}
-use Rattle.claims.specs.Ledger.{Ledger, enter}
+use Rattle.claims.specs.Ledger.{Ledger}
+use Rattle.claims.specs.Enter.{enter}
 use Rattle.claims.specs.Trace.{eventOf, eventsOf, batchAfter, recorded}
 use Rattle.claims.specs.Added.{Earlier, seal-call, own-start, speculation-start, own-report, speculation-report, commit-step}
 use Rattle.claims.specs.Inserts.{jobOf, jobsOf, otherOf, othersOf, insertsFirst, InsertsFirstStatement}

@@ -7,12 +7,14 @@ pub mod Update
 pub mod Agreement
 pub mod StepAgreement
 pub mod After
+pub mod View
+pub mod Written
+pub mod Replayed
 pub mod Promises
 pub mod AsAsked
-pub mod View
 pub mod RulesSay
+pub mod MatchSays
 pub mod WalkSays
-pub mod Written
 pub mod Shaped
 pub mod StepStates
 pub mod Right
@@ -29,3 +31,4 @@ pub mod Inserts
 pub mod Chooser
 pub mod Tallies
 pub mod Bypassed
+pub mod FormerRule

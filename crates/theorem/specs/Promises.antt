@@ -13,20 +13,24 @@ use Rattle.laws.specs.SearchLaws.{any-absent, if-or, clash, and-false}
 use Rattle.laws.specs.RefusalLaws.{Passed, accepted}
 use Rattle.dependence.specs.declared.Job.{Job}
 use Rattle.dependence.specs.Job.{jobAt}
+use Rattle.rules.specs.Values.{valueAt}
 use Rattle.rules.specs.Snapshot.{Snapshot, isOut, isStored, isLive}
-use Rattle.rules.specs.Speculation.{waits, isReady, isInvalid}
+use Rattle.rules.specs.Speculation.{waits, isReady, isJudged, isValid, isInvalid, validity}
+use Rattle.rules.specs.SpeculationLaws.{judged-else}
 use Rattle.rules.specs.Call.{Call, startOwn, reportOwn, reportSpeculation, commit}
 use Rattle.rules.specs.Refusals.{testsOf, refusalOf}
 use Rattle.engine.specs.declared.Run.{Run}
 use Rattle.engine.specs.declared.Batch.{Batch}
-use Rattle.engine.specs.Record.{runAt, committedAt}
+use Rattle.engine.specs.Record.{runAt, committedAt, snapshotOf}
 use Rattle.engine.specs.Perform.{perform}
-use Rattle.claims.specs.Ledger.{Counted, Entry, Ledger, isSome, isCounted, ownIsOut, guessPhase, snapshotOfLedger}
+use Rattle.claims.specs.Ledger.{Counted, Entry, Ledger, isSome, isCounted, ownIsOut, guessPhase}
+use Rattle.claims.specs.Enter.{snapshotOfLedger}
 use Rattle.claims.specs.Demand3.{judged, own-start, own-report, speculation-report, commit-step, Accepted}
 use Rattle.theorem.specs.Effect.{refusal-in-form}
-use Rattle.theorem.specs.SameRefusal.{held-alike, same-refusal}
+use Rattle.theorem.specs.SameRefusal.{held-alike, validity-same, same-refusal}
 use Rattle.theorem.specs.Faithful.{Stage, untouched, guess-out, guess-reported, own-out, own-counted, guess-counted, Faithful}
 use Rattle.theorem.specs.Faithful.{stage-committed, stage-steps, faithful-form, same-snapshot}
+use Rattle.theorem.specs.Replayed.{Replayed}
 use Rattle.theorem.specs.Update.{at-or}
 
 -- A counted report's mark is the one that the record holds.
@@ -39,16 +43,26 @@ stage-mark (own-out g h s) k e = cc
 stage-mark (own-counted g stored s) k e = cc
 stage-mark (guess-counted stored) k e = cc
 
-module _ {b : Batch} {l : Ledger} (agree : Faithful b l) where
+-- Of a record whose cells are those of the insertion-order run:
+module _ {b : Batch} {l : Ledger} (agree : Faithful b l) (replayed : Replayed b l) where
   -- R170: each call is accepted exactly where the rules allow it, and else refused with their number.
   pub exact-refusal : (call : Call) → perform b call .refusal ≡ judged l call
   exact-refusal call =
       refusal-in-form b call (faithful-form agree)
       ∙ ap (λ (s : Snapshot). refusalOf s call) (same-snapshot agree)
       ∙ sym
-      (same-refusal (snapshotOfLedger l) (l .jobCount) (λ j. jobAt (b .jobs) j) (λ j h. sym (agree .jobs-are j h)) call
-      (held-alike (l .jobCount) call))
+      (same-refusal (snapshotOfLedger l) (l .jobCount) (λ j. jobAt (b .jobs) j) (λ x. valueAt (b .cells) x)
+      (λ j h. sym (agree .jobs-are j h)) (λ x. sym (replayed x)) call (held-alike (l .jobCount) call))
 
+  -- A guess is judged by the record as it is by the ledger.
+  pub exact-validity : (j : ℕ) → j < l .jobCount → validity (snapshotOf b) j ≡ validity (snapshotOfLedger l) j
+  exact-validity j h =
+      ap (λ (s : Snapshot). validity s j) (same-snapshot agree)
+      ∙ sym
+      (validity-same (snapshotOfLedger l) (l .jobCount) (λ j. jobAt (b .jobs) j) (λ x. valueAt (b .cells) x)
+      (λ j h. sym (agree .jobs-are j h)) j h (λ x. sym (replayed x)))
+
+module _ {b : Batch} {l : Ledger} (agree : Faithful b l) where
   -- A job is settled where it has a counted report, with that report's mark.
   pub settled-counted : (j : ℕ) → committedAt b j ≡ isSome (l .entry j .counted)
   settled-counted j = stage-committed (agree .job-is j .stage)
@@ -117,12 +131,13 @@ all-settled-ready s j h = ap not (any-absent j (waits s j) (λ i k. rw (h i k)))
 
 -- The first unsettled job of a sealed batch.
 
-module _ {b : Batch} {l : Ledger} (agree : Faithful b l) (sealed : isSome (l .switch) ≡ true) (j : ℕ) (below : j < l .jobCount)
+module _ {b : Batch} {l : Ledger} (agree : Faithful b l) (replayed : Replayed b l) (sealed : isSome (l .switch) ≡ true) (j : ℕ)
+    (below : j < l .jobCount)
     (unsettled : isCounted (l .entry j) ≡ false) (earlier : (i : ℕ) → i < j → isCounted (l .entry i) ≡ true) where
   -- A call that the rules allow is accepted.
   allowed-by : (call : Call) → Passed (testsOf (snapshotOfLedger l) call) → perform b call .refusal ≡ 0
   unfolding refusalOf
-  allowed-by call tests = exact-refusal agree call ∙ accepted (testsOf (snapshotOfLedger l) call) tests
+  allowed-by call tests = exact-refusal agree replayed call ∙ accepted (testsOf (snapshotOfLedger l) call) tests
 
   -- Neither 10, 11 nor 15 applies to it.
   is-sealed : not (isSome (l .switch)) ≡ false
@@ -134,11 +149,19 @@ module _ {b : Batch} {l : Ledger} (agree : Faithful b l) (sealed : isSome (l .sw
   is-ready : not (isReady (snapshotOfLedger l) j) ≡ false
   is-ready = ap not (all-settled-ready (snapshotOfLedger l) j earlier)
 
+  -- A guess that is not there does not stand, and nor does one that has fallen.
+  none-stands : isLive (guessPhase (l .entry j .guess)) ≡ false → isValid (snapshotOfLedger l) j ≡ false
+  unfolding isValid
+  none-stands live = rw (live, and-false (isReady (snapshotOfLedger l) j))
+
+  fallen-stands-not : isInvalid (snapshotOfLedger l) j ≡ true → isValid (snapshotOfLedger l) j ≡ false
+  fallen-stands-not fallen = rw (judged-else (snapshotOfLedger l) j, fallen) (and-false (isJudged (snapshotOfLedger l) j))
+
   -- Where neither its own run nor its guess is there, the own run may be started.
   pub own-may-start : ownIsOut (l .entry j) ≡ false → isLive (guessPhase (l .entry j .guess)) ≡ false
       → perform b (startOwn j) .refusal ≡ 0
   own-may-start own live =
-      allowed-by (startOwn j) (is-sealed, (is-below, (rw (own, unsettled), (is-ready, (rw live, tt)))))
+      allowed-by (startOwn j) (is-sealed, (is-below, (rw (own, unsettled), (is-ready, (none-stands live, tt)))))
 
   -- The first unsettled job has an accepted step.
   first-moves : Next (l .entry j) → Accepted b l
@@ -162,25 +185,20 @@ module _ {b : Batch} {l : Ledger} (agree : Faithful b l) (sealed : isSome (l .sw
         call = startOwn j;
         step = own-start;
         allowed =
-            allowed-by (startOwn j) (
-              is-sealed,
-              (
-                is-below,
-                (rw (own, unsettled), (is-ready, (rw fallen (and-false (isLive (guessPhase (l .entry j .guess)))), tt))),
-              ),
-            );
+            allowed-by (startOwn j)
+            (is-sealed, (is-below, (rw (own, unsettled), (is-ready, (fallen-stands-not fallen, tt)))));
       })
-      (λ stands.
+      (λ not-fallen.
       record {
         call = commit j;
         step = commit-step;
-        allowed = allowed-by (commit j) (is-sealed, (is-below, (rw (unsettled, stored), (is-ready, (stands, tt)))));
+        allowed = allowed-by (commit j) (is-sealed, (is-below, (rw (unsettled, stored), (is-ready, (not-fallen, tt)))));
       })
 
 -- While a job of a sealed batch is unsettled, some step is accepted.
-pub some-step : {b : Batch} {l : Ledger} → Faithful b l → isSome (l .switch) ≡ true
+pub some-step : {b : Batch} {l : Ledger} → Faithful b l → Replayed b l → isSome (l .switch) ≡ true
     → (j : ℕ) → j < l .jobCount → l .entry j .counted ≡ none → Accepted b l
-some-step {b} {l} agree sealed j below unsettled =
+some-step {b} {l} agree replayed sealed j below unsettled =
     let first = first-failing (λ i. isCounted (l .entry i)) j (ap isSome unsettled) in
-    first-moves agree sealed (first .place) (omega (arith, first .within)) (first .fails) (first .earlier)
+    first-moves agree replayed sealed (first .place) (omega (arith, first .within)) (first .fails) (first .earlier)
     (next-of (agree .job-is (first .place) .stage) (first .fails))

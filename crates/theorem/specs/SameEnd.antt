@@ -13,7 +13,8 @@ use Rattle.rules.specs.Values.{valueAt, presentValues, writeBack}
 use Rattle.rules.specs.Call.{Call, insert, seal, startOwn, startSpeculation, reportOwn, reportSpeculation, commit}
 use Rattle.engine.specs.declared.Batch.{Batch}
 use Rattle.engine.specs.Opening.{opened}
-use Rattle.claims.specs.Ledger.{Report, Counted, Ledger, emptyLedger, isSome, enter}
+use Rattle.claims.specs.Ledger.{Report, Counted, Ledger, emptyLedger, isSome}
+use Rattle.claims.specs.Enter.{enter}
 use Rattle.claims.specs.Replay.{turn, replay, leftFor}
 use Rattle.claims.specs.Trace.{Event, eventsOf, recorded, ledgerAfter, ledgerOf}
 use Rattle.claims.specs.Demand3.{Demand3}

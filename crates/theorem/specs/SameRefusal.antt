@@ -1,37 +1,40 @@
--- The rules read of the jobs only those inserted: what a place past the last job holds refuses nothing.
-use Prim.Native.Nat.{ℕ, zero, suc, _-_, _<_}
+-- The rules read of the jobs only those inserted, and of the cells their heights: what a place past the last job holds refuses
+-- nothing.
+use Prim.Native.Nat.{ℕ, zero, suc, _<_}
 use native.Mathlib.Omega.{arith}
 use mathlib.Core.Bool.{Bool, true, false, cond, not, _&&_}
 use mathlib.Core.List.{List}
-use mathlib.Core.Path.{_≡_, refl, ap, _∙_}
+use mathlib.Core.Path.{_≡_, refl, ap}
 use lib.Dec.{leb, ltb}
+use lib.IntN.{ℤ}
 use borrow.Author.Tests.{leb-false, ltb-true}
 use Rattle.laws.specs.Search.{anyBelow}
 use Rattle.laws.specs.SearchLaws.{any-same, if-or}
 use Rattle.laws.specs.Refusal.{Refusal, firstOf}
 use Rattle.dependence.specs.declared.Job.{Job}
 use Rattle.dependence.specs.Job.{inUse, accessAt}
+use Rattle.rules.specs.Values.{staleAt}
 use Rattle.rules.specs.Walk.{sourceBelow, bypassAt}
 use Rattle.rules.specs.Snapshot.{Snapshot}
-use Rattle.rules.specs.Speculation.{waits, isReady, sourceNow, bypassedNow, invalidBelow, isInvalid, validity, unusable, sourceMissing}
+use Rattle.rules.specs.Speculation.{waits, isReady, sourceNow, bypassedNow, handedStale, isValid, isInvalid, validity}
+use Rattle.rules.specs.Speculation.{unusable, sourceMissing}
 use Rattle.rules.specs.Call.{Call, insert, seal, startOwn, startSpeculation, reportOwn, reportSpeculation, commit}
 use Rattle.rules.specs.Refusals.{stepTests, refusalOf}
 
--- The snapshot with another number of jobs and other jobs.
-abbrev pub withJobs : Snapshot → ℕ → (ℕ → Job) → Snapshot
-withJobs s count job =
+-- The snapshot with another number of jobs, other jobs and other heights in the cells.
+abbrev pub withHeld : Snapshot → ℕ → (ℕ → Job) → (ℕ → ℤ) → Snapshot
+withHeld s count job cells =
     record {
       cellCount = s .cellCount;
       jobCount = count;
       sealed = s .sealed;
       speculating = s .speculating;
+      cells = cells;
       job = job;
       committed = s .committed;
-      wrote = s .wrote;
       running = s .running;
       phase = s .phase;
-      bypassed = s .bypassed;
-      source = s .source;
+      handed = s .handed;
     }
 
 -- The walk back from job j reads the jobs before it.
@@ -42,43 +45,24 @@ source-below-same f g committed cell zero h = refl
 source-below-same f g committed cell (suc j) h =
     rw (h j (omega arith), source-below-same f g committed cell j (λ i l. h i (omega arith)))
 
-module _ (s : Snapshot) (count : ℕ) (g : ℕ → Job) where
-  -- Which guesses have fallen does not depend on the jobs.
-  invalid-below-same : (j : ℕ) → invalidBelow s j ≡ invalidBelow (withJobs s count g) j
-  unfolding invalidBelow
-  invalid-below-same zero = refl
-  invalid-below-same (suc j) = rw (invalid-below-same j)
-
-  -- So the same guesses have fallen, and are of no use to others.
-  invalid-same : (j : ℕ) → isInvalid s j ≡ isInvalid (withJobs s count g) j
-  unfolding isInvalid
-  invalid-same j = rw (invalid-below-same j)
-
-  unusable-same : (source : ℕ) → unusable s source ≡ unusable (withJobs s count g) source
-  unusable-same source = rw (invalid-same (source - 1))
-
+module _ (s : Snapshot) (count : ℕ) (g : ℕ → Job) (cells : ℕ → ℤ) where
   -- With jobs that agree below the count, for a job number below it.
   module _ (same : (i : ℕ) → i < s .jobCount → s .job i ≡ g i) (j : ℕ) (h : j < s .jobCount) where
     -- The same job is ready.
-    ready-same : isReady s j ≡ isReady (withJobs s count g) j
+    ready-same : isReady s j ≡ isReady (withHeld s count g cells) j
     unfolding isReady
     ready-same =
         ap not
-        (any-same j (waits s j) (waits (withJobs s count g) j) (λ i l. rw (same i (omega arith), same j h)))
+        (any-same j (waits s j) (waits (withHeld s count g cells) j) (λ i l. rw (same i (omega arith), same j h)))
 
-    -- A guess of it is judged alike.
-    pub validity-same : validity s j ≡ validity (withJobs s count g) j
-    unfolding validity
-    validity-same = rw (ready-same, invalid-same j)
-
-    -- It takes from the same jobs, and looks past the same ones.
-    pub source-same : (place : ℕ) → sourceNow s j place ≡ sourceNow (withJobs s count g) j place
+    -- A guess of it takes from the same jobs, and looks past the same ones.
+    pub source-same : (place : ℕ) → sourceNow s j place ≡ sourceNow (withHeld s count g cells) j place
     source-same place =
         rw (same j h)
         (ap (λ (k : ℕ). cond (inUse (g j) place) k 0)
         (source-below-same (s .job) g (s .committed) (accessAt (g j) place .cell) j (λ i l. same i (omega arith))))
 
-    pub bypassed-same : (i : ℕ) → bypassedNow s j i ≡ bypassedNow (withJobs s count g) j i
+    pub bypassed-same : (i : ℕ) → bypassedNow s j i ≡ bypassedNow (withHeld s count g cells) j i
     bypassed-same i = earlier (ltb i j) refl
       where
         earlier : (t : Bool) → ltb i j ≡ t
@@ -89,15 +73,34 @@ module _ (s : Snapshot) (count : ℕ) (g : ℕ → Job) where
             (λ place l. rw (source-same place, same j h, same i (omega (arith, ltb-true i j e))))
 
     -- It lacks a source alike.
-    missing-same : sourceMissing s j ≡ sourceMissing (withJobs s count g) j
+    missing-same : sourceMissing s j ≡ sourceMissing (withHeld s count g cells) j
     missing-same =
         any-same 4 (λ place. unusable s (sourceNow s j place))
-        (λ place. unusable (withJobs s count g) (sourceNow (withJobs s count g) j place))
-        (λ place l. ap (unusable s) (source-same place) ∙ unusable-same (sourceNow (withJobs s count g) j place))
+        (λ place. unusable s (sourceNow (withHeld s count g cells) j place))
+        (λ place l. ap (unusable s) (source-same place))
+
+    -- With the same heights in the cells its guess is judged alike.
+    module _ (present : (x : ℕ) → s .cells x ≡ cells x) where
+      stale-same : handedStale s j ≡ handedStale (withHeld s count g cells) j
+      stale-same =
+          any-same 4 (staleAt (s .job j) (s .handed j) (s .cells)) (staleAt (g j) (s .handed j) cells)
+          (λ place l. rw (same j h, present (accessAt (g j) place .cell)))
+
+      valid-same : isValid s j ≡ isValid (withHeld s count g cells) j
+      unfolding isValid
+      valid-same = rw (ready-same, stale-same)
+
+      invalid-same : isInvalid s j ≡ isInvalid (withHeld s count g cells) j
+      unfolding isInvalid
+      invalid-same = rw (ready-same, stale-same)
+
+      pub validity-same : validity s j ≡ validity (withHeld s count g cells) j
+      unfolding validity
+      validity-same = rw (ready-same, stale-same)
 
   -- A step on a job number that is not below the count is refused before anything else is looked at.
   steps-same : (j : ℕ) (a b : List Refusal) → leb (s .jobCount) j ≡ leb count j → (j < s .jobCount → firstOf a ≡ firstOf b)
-      → firstOf (stepTests s j a) ≡ firstOf (stepTests (withJobs s count g) j b)
+      → firstOf (stepTests s j a) ≡ firstOf (stepTests (withHeld s count g cells) j b)
   unfolding firstOf
   steps-same j a b held h =
       if-or (leb (s .jobCount) j) (λ t. rw (← held, t)) (λ f. rw (← held, f, h (leb-false (s .jobCount) j f)))
@@ -121,17 +124,23 @@ held-alike n (reportOwn j values wrote) = refl
 held-alike n (reportSpeculation j values wrote) = refl
 held-alike n (commit j) = refl
 
--- The rules refuse alike with jobs that agree below the count.
-pub same-refusal : (s : Snapshot) (count : ℕ) (g : ℕ → Job) → ((i : ℕ) → i < s .jobCount → s .job i ≡ g i)
-    → (call : Call) → HeldAlike (s .jobCount) count call → refusalOf s call ≡ refusalOf (withJobs s count g) call
+-- The rules refuse alike with jobs that agree below the count, and the same heights.
+pub same-refusal : (s : Snapshot) (count : ℕ) (g : ℕ → Job) (cells : ℕ → ℤ) → ((i : ℕ) → i < s .jobCount → s .job i ≡ g i)
+    → ((x : ℕ) → s .cells x ≡ cells x)
+    → (call : Call) → HeldAlike (s .jobCount) count call → refusalOf s call ≡ refusalOf (withHeld s count g cells) call
 unfolding refusalOf
-same-refusal s count g same (insert job) held = rw held
-same-refusal s count g same (seal switch) held = refl
-same-refusal s count g same (startOwn j) held =
-    steps-same s count g j _ _ held (λ h. rw (ready-same s count g same j h, invalid-same s count g j))
-same-refusal s count g same (startSpeculation j) held =
-    steps-same s count g j _ _ held (λ h. rw (ready-same s count g same j h, missing-same s count g same j h))
-same-refusal s count g same (reportOwn j values wrote) held = steps-same s count g j _ _ held (λ h. rw (same j h))
-same-refusal s count g same (reportSpeculation j values wrote) held = steps-same s count g j _ _ held (λ h. rw (same j h))
-same-refusal s count g same (commit j) held =
-    steps-same s count g j _ _ held (λ h. rw (ready-same s count g same j h, invalid-same s count g j))
+same-refusal s count g cells same present (insert job) held = rw held
+same-refusal s count g cells same present (seal switch) held = refl
+same-refusal s count g cells same present (startOwn j) held =
+    steps-same s count g cells j _ _ held
+    (λ h. rw (ready-same s count g cells same j h, valid-same s count g cells same j h present))
+same-refusal s count g cells same present (startSpeculation j) held =
+    steps-same s count g cells j _ _ held
+    (λ h. rw (ready-same s count g cells same j h, missing-same s count g cells same j h))
+same-refusal s count g cells same present (reportOwn j values wrote) held =
+    steps-same s count g cells j _ _ held (λ h. rw (same j h))
+same-refusal s count g cells same present (reportSpeculation j values wrote) held =
+    steps-same s count g cells j _ _ held (λ h. rw (same j h))
+same-refusal s count g cells same present (commit j) held =
+    steps-same s count g cells j _ _ held
+    (λ h. rw (ready-same s count g cells same j h, invalid-same s count g cells same j h present))

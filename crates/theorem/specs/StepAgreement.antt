@@ -13,6 +13,7 @@ use Rattle.dependence.specs.declared.Job.{Job}
 use Rattle.dependence.specs.Job.{jobAt, inUse}
 use Rattle.admission.specs.AdmissionLaws.{admitted-arity}
 use Rattle.jobset.specs.JobSet.{hasJob}
+use Rattle.rules.specs.Values.{valueAt}
 use Rattle.rules.specs.Walk.{sourceBelow}
 use Rattle.walk.specs.Sources.{setOf}
 use Rattle.rules.specs.Snapshot.{Snapshot}
@@ -23,7 +24,8 @@ use Rattle.engine.specs.declared.Batch.{Batch}
 use Rattle.engine.specs.Record.{runAt, snapshotOf}
 use Rattle.engine.specs.Steps.{reportedRun, ownValues, speculativeValues, sourcesNow, withOwnStarted, withSpeculationStarted, withOwnReported, withSpeculationReported, withCommitted}
 use Rattle.engine.specs.Steps.{startOwnRefusal, startSpeculationRefusal, reportOwnRefusal, reportSpeculationRefusal, commitRefusal}
-use Rattle.claims.specs.Ledger.{Guess, Ledger, snapshotOfLedger, enter}
+use Rattle.claims.specs.Ledger.{Guess, Ledger}
+use Rattle.claims.specs.Enter.{snapshotOfLedger, enter}
 use Rattle.theorem.specs.Faithful.{Faithful, same-snapshot}
 use Rattle.theorem.specs.Kept.{start-own-kept, start-speculation-kept, report-own-kept, report-speculation-kept, commit-kept}
 use Rattle.theorem.specs.SameRefusal.{source-same, bypassed-same}
@@ -68,12 +70,12 @@ module _ {b : Batch} {l : Ledger} (agree : Faithful b l) (j : ℕ) (h : j < l .j
   pub sources-agree : (place : ℕ) → sourceNow (snapshotOf b) j place ≡ sourceNow (snapshotOfLedger l) j place
   sources-agree place =
       ap (λ (s : Snapshot). sourceNow s j place) (same-snapshot agree)
-      ∙ sym (source-same (snapshotOfLedger l) (l .jobCount) (λ i. jobAt (b .jobs) i) jobs-same j h place)
+      ∙ sym (source-same (snapshotOfLedger l) (l .jobCount) (λ i. jobAt (b .jobs) i) (λ x. valueAt (b .cells) x) jobs-same j h place)
 
   pub bypassed-agree : (i : ℕ) → bypassedNow (snapshotOf b) j i ≡ bypassedNow (snapshotOfLedger l) j i
   bypassed-agree i =
       ap (λ (s : Snapshot). bypassedNow s j i) (same-snapshot agree)
-      ∙ sym (bypassed-same (snapshotOfLedger l) (l .jobCount) (λ i. jobAt (b .jobs) i) jobs-same j h i)
+      ∙ sym (bypassed-same (snapshotOfLedger l) (l .jobCount) (λ i. jobAt (b .jobs) i) (λ x. valueAt (b .cells) x) jobs-same j h i)
 
   -- A place past the four took from nobody.
   source-beyond : (place : ℕ) → 4 ≤ place → sourceNow (snapshotOfLedger l) j place ≡ 0

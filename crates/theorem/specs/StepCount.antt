@@ -10,7 +10,8 @@ use lib.IntN.{ℤ}
 use borrow.Author.Tests.{eq-eqb, ne-eqb}
 use Rattle.rules.specs.Call.{Call, insert, seal, startOwn, startSpeculation, reportOwn, reportSpeculation, commit}
 use Rattle.engine.specs.Opening.{opened}
-use Rattle.claims.specs.Ledger.{Counted, GuessEntry, Entry, Ledger, emptyLedger, stepEntered, enter}
+use Rattle.claims.specs.Ledger.{Counted, GuessEntry, Entry, Ledger, emptyLedger}
+use Rattle.claims.specs.Enter.{stepEntered, enter}
 use Rattle.claims.specs.Trace.{Event, eventsOf, recorded, ledgerAfter, ledgerOf}
 use Rattle.claims.specs.StepCount.{isStepOn, stepCount, StepCountStatement}
 use Rattle.theorem.specs.Update.{at-or, update-same, update-other}

@@ -5,8 +5,9 @@ use Rattle.engine.specs.declared.CellAnswer.{CellAnswer}
 use Rattle.claims.specs.Demand3.{Demand3Statement}
 use Rattle.theorem.specs.Promises.{exact-refusal, at-most-four, some-step}
 use Rattle.theorem.specs.AsAsked.{asked-cell, asked-settled, asked-mark}
+use Rattle.theorem.specs.Right.{sound-replayed}
 use Rattle.theorem.specs.Always.{sound-always}
-use Rattle.theorem.specs.Outcome.{cells-are-replayed, handed-is-left}
+use Rattle.theorem.specs.Outcome.{handed-is-left}
 
 -- What is told of a cell that holds the height.
 abbrev pub told : ℤ → CellAnswer
@@ -20,11 +21,12 @@ pub demand3 : Demand3Statement
 demand3 heights calls e =
     let sound = sound-always heights calls e in
     let agree = sound .agree in
+    let replayed = sound-replayed sound in
     record {
-      exact = exact-refusal agree;
+      exact = exact-refusal agree replayed;
       four-steps = at-most-four agree;
-      progress = some-step agree;
-      cells = λ x h. asked-cell agree x h ∙ ap told (cells-are-replayed sound x h);
+      progress = some-step agree replayed;
+      cells = λ x h. asked-cell agree x h ∙ ap told (replayed x);
       handed = handed-is-left sound;
       settled = asked-settled agree;
       marks = asked-mark agree;

@@ -8,14 +8,14 @@ use mathlib.Core.Path.{_≡_, refl, sym, ap, _∙_}
 use lib.Dec.{eqb}
 use lib.IntN.{ℤ}
 use borrow.Author.Tests.{eq-eqb, ne-eqb, eqb-true, le-leb, lt-ltb, not-false}
-use Rattle.laws.specs.SearchLaws.{any-find, any-found, any-fails, each-of-four, if-or, clash, and-left, and-right, or-left}
+use Rattle.laws.specs.SearchLaws.{any-find, any-found, any-fails, each-of-four, if-or, clash, and-left, and-right}
 use Rattle.dependence.specs.declared.Job.{Job}
 use Rattle.dependence.specs.Job.{inUse, accessAt, jobAt}
 use Rattle.admission.specs.AdmissionLaws.{admitted-distinct}
 use Rattle.rules.specs.Values.{four, valueAt, valueFor, presentAt, storedValues}
 use Rattle.rules.specs.Walk.{accessIs, writes as writesCell, maybeWrites, sourceBelow as sourceNumber, bypassAt}
 use Rattle.rules.specs.Snapshot.{isStored}
-use Rattle.rules.specs.Speculation.{sourceNow, bypassedNow, isInvalid, unusable, sourceMissing}
+use Rattle.rules.specs.Speculation.{sourceNow, bypassedNow, unusable, sourceMissing}
 use Rattle.runs.specs.RunLaws.{DistinctCells, stored-value}
 use Rattle.engine.specs.declared.Batch.{Batch}
 use Rattle.engine.specs.Record.{runAt}
@@ -24,7 +24,8 @@ use Rattle.model.specs.State.{Use, absent, reads, writes, maybe, names, isCommi
 use Rattle.model.specs.StateLaws.{writes-named}
 use Rattle.model.specs.Walk.{stopAt, sourceBelow, firstAfter, source-met, HandedFrom, Gathered}
 use Rattle.claims.specs.Ledger.{Report, Guess, GuessEntry, never, entered, reported, struck, Ledger}
-use Rattle.claims.specs.Ledger.{isCounted, guessPhase, snapshotOfLedger}
+use Rattle.claims.specs.Ledger.{isCounted, guessPhase}
+use Rattle.claims.specs.Enter.{snapshotOfLedger}
 use Rattle.theorem.specs.Faithful.{Faithful}
 use Rattle.theorem.specs.Held.{guess-stored}
 use Rattle.theorem.specs.StepAgreement.{sources-agree}
@@ -211,9 +212,7 @@ module _ {b : Batch} {l : Ledger} (agree : Faithful b l) (j : ℕ) (h : j < l .j
         → isStored (guessPhase (l .entry w .guess)) ≡ true
     usable-at n q t =
         let m : suc w - 1 ≡ w = omega arith in
-        not-false (isStored (guessPhase (l .entry w .guess)))
-        (or-left (not (isStored (guessPhase (l .entry w .guess)))) (isInvalid (snapshotOfLedger l) w)
-        (rw (q, ne-eqb (suc w) 0 (λ z. omega arith), m) at t))
+        not-false (isStored (guessPhase (l .entry w .guess))) (rw (q, ne-eqb (suc w) 0 (λ z. omega arith), m) at t)
 
     has-report : ReportedGuess (l .entry w .guess)
     has-report =
