@@ -1,5 +1,5 @@
--- The worked examples P1 to P9 and P11 to P13 as one table, shown by one theorem about the definitions.
--- The rows behind P13 are points of the same plans at which a call is refused, and a job of four accesses.
+-- The worked examples P1 to P9 and P11 to P15 as one table, shown by one theorem about the definitions.
+-- The rows behind P15 are points of the same plans at which a call is refused, and a job of four accesses.
 use Prim.Native.Nat.{ℕ, zero, suc}
 use mathlib.Core.Bool.{Bool, true, false}
 use mathlib.Core.List.{List, [], _∷_}
@@ -9,6 +9,7 @@ use lib.ListN.{getD}
 use Rattle.laws.specs.Search.{anyBelow, leastBelow}
 use Rattle.laws.specs.Fold.{foldBelow, countBelow}
 use Rattle.laws.specs.Refusal.{firstOf}
+use Rattle.laws.specs.SameHeight.{sameHeight}
 use Rattle.laws.specs.Rows.{AllHold, end, _also_}
 use Rattle.dependence.specs.declared.Job.{Job}
 use Rattle.dependence.specs.Job.{noAccess}
@@ -18,7 +19,7 @@ use Rattle.kinds.specs.Kinds.{reported, tableOf, resultOf}
 use Rattle.jobset.specs.JobSet.{bit, withBit, hasJob, withJob, reachesTo}
 use Rattle.rules.specs.Values.{valueBelow, writeBack}
 use Rattle.rules.specs.Walk.{sourceBelow}
-use Rattle.rules.specs.Speculation.{isReady, invalidBelow, isInvalid, validity}
+use Rattle.rules.specs.Speculation.{isReady, isValid, isInvalid, validity}
 use Rattle.walk.specs.Sources.{setOf}
 use Rattle.engine.specs.Form.{jobOut, inForm}
 use Rattle.engine.specs.Opening.{opened, withInserted, inserted, withSealed, sealedWith}
@@ -74,6 +75,9 @@ Holds (next plan line answer) = answerTo (final plan) line ≡ answer
 -- The kinds by their names.
 abbrev outside : ℕ
 outside = 0
+
+abbrev set : ℕ
+set = 1
 
 abbrev shift : ℕ
 shift = 2
@@ -207,6 +211,49 @@ plan13 = record {
       ∷ [];
 }
 
+-- P14: an outside job reports, with mark 1, the height that was there; and another one.
+abbrev plan14 : Plan
+plan14 = record {
+  heights = pos 1500 ∷ [];
+  lines =
+      insertion (maybeWriter 0)
+      ∷ insertion (jobOn shift (pos 20) 0)
+      ∷ sealing 1
+      ∷ step 0 0
+      ∷ step 1 1
+      ∷ step 3 1
+      ∷ ownReport 0 (one (pos 1500)) 1
+      ∷ step 4 1
+      ∷ [];
+}
+
+abbrev planOther : Plan
+planOther = first 6 plan14 then ownReport 0 (one (pos 1501)) 1
+
+-- P15: the set's guess falls, and its own run reports what the guess had reported; and another height.
+abbrev plan15 : Plan
+plan15 = record {
+  heights = pos 1390 ∷ [];
+  lines =
+      insertion (jobOn floor (pos 1400) 0)
+      ∷ insertion (jobOn set (pos 1500) 0)
+      ∷ insertion (jobOn shift (pos 20) 0)
+      ∷ sealing 1
+      ∷ step 0 0
+      ∷ step 1 1
+      ∷ step 3 1
+      ∷ step 1 2
+      ∷ step 3 2
+      ∷ step 2 0
+      ∷ step 0 1
+      ∷ step 2 1
+      ∷ step 4 2
+      ∷ [];
+}
+
+abbrev planSetOther : Plan
+planSetOther = first 11 plan15 then ownReport 1 (one (pos 1501)) 0
+
 -- P8's jobs with guessing off.
 abbrev planOff : Plan
 planOff = record {
@@ -219,7 +266,7 @@ planOff = record {
       ∷ [];
 }
 
--- P9 with the second shift not guessed: the guess that it would take from has fallen.
+-- P9 with the second shift not guessed: the guess that it would take from has fallen, and is taken from all the same.
 abbrev planFallen : Plan
 planFallen = first 7 plan9 then step 2 0
 
@@ -277,16 +324,16 @@ table =
     ∷ settled plan8 1 2 0
     ∷ height plan8 0 (pos 1520)
     ∷ height plan8 1 (pos 1480)
-    -- P9 floor, shift, shift on one cell, both shifts guessed; the floor reports a raised height, mark 1: both guesses
-    -- have fallen, start own 2 gives 15, start own 1 is accepted.
+    -- P9 floor, shift, shift on one cell, both shifts guessed; the floor reports a raised height, mark 1: the first shift's
+    -- guess has fallen, the second's is not yet judged, start own 2 gives 15, start own 1 is accepted.
     ∷ answers plan9 (0 ∷ 0 ∷ 0 ∷ 0 ∷ 0 ∷ 0 ∷ 0 ∷ 0 ∷ 0 ∷ 0 ∷ [])
     ∷ settled plan9 0 1 1
     ∷ height plan9 0 (pos 1400)
     ∷ judged plan9 1 3
-    ∷ judged plan9 2 3
+    ∷ judged plan9 2 1
     ∷ next plan9 (step 0 2) 15
     ∷ next plan9 (step 0 1) 0
-    -- P11 tallies: before a guess is started; while it is out, and stored; kept; both fallen, and one of them thrown away.
+    -- P11 tallies: before a guess is started; while it is out, and stored; kept; of P9's two, then with one of them thrown away.
     ∷ tally (first 2 plan8) (numbers 2 0 0 0 0)
     ∷ tally (first 5 plan8) (numbers 2 1 0 0 1)
     ∷ tally (first 6 plan8) (numbers 2 1 0 0 1)
@@ -320,16 +367,37 @@ table =
     ∷ judged plan13 3 3
     ∷ past (plan13 then step 0 3) 3 noJobs noJobs
     ∷ notTold plan13 4 11
+    -- P14 the height that was there with mark 1: not yet judged; stands; kept, and no more to judge. Another height: fallen.
+    ∷ answers plan14 (0 ∷ 0 ∷ 0 ∷ 0 ∷ 0 ∷ 0 ∷ 0 ∷ 0 ∷ [])
+    ∷ judged (first 6 plan14) 1 1
+    ∷ judged (first 7 plan14) 1 2
+    ∷ next (first 7 plan14) (step 0 1) 17
+    ∷ settled plan14 0 1 1
+    ∷ settled plan14 1 2 0
+    ∷ height plan14 0 (pos 1520)
+    ∷ judged plan14 1 0
+    ∷ judged planOther 1 3
+    ∷ next planOther (step 4 1) 18
+    ∷ next planOther (step 0 1) 0
+    -- P15 a source thrown away: fallen and not yet judged; stands when the height is reported again. Another height: fallen.
+    ∷ answers plan15 (0 ∷ 0 ∷ 0 ∷ 0 ∷ 0 ∷ 0 ∷ 0 ∷ 0 ∷ 0 ∷ 0 ∷ 0 ∷ 0 ∷ 0 ∷ [])
+    ∷ judged (first 10 plan15) 1 3
+    ∷ judged (first 10 plan15) 2 1
+    ∷ judged (first 12 plan15) 2 2
+    ∷ settled plan15 1 1 0
+    ∷ settled plan15 2 2 0
+    ∷ height plan15 0 (pos 1520)
+    ∷ judged planSetOther 2 3
     -- R79: a guess that only took from another; a guess that its job is settled by.
     ∷ past (first 9 plan9) 2 noJobs noJobs
     ∷ past plan8 1 (jobsFrom 1 0) noJobs
-    -- R45: no guess is started; it is out, and stored, and the job is not ready; the job is ready and the guess stands, and
-    -- does so once the job is settled by it; it is thrown away.
+    -- R45: no guess is started; it is out, and stored, and the job is not ready; the job is ready and the guess stands; the job is
+    -- settled by it; it is thrown away.
     ∷ judged (first 4 plan8) 1 0
     ∷ judged (first 5 plan8) 1 1
     ∷ judged (first 6 plan8) 1 1
     ∷ judged (first 7 plan8) 1 2
-    ∷ judged plan8 1 2
+    ∷ judged plan8 1 0
     ∷ judged (plan9 then step 0 1) 1 0
     -- R112: a guess with guessing off.
     ∷ next planOff (step 1 1) 12
@@ -355,11 +423,11 @@ table =
     ∷ next (plan9 then step 0 1) (step 4 1) 13
     -- R114: a guess of a ready job.
     ∷ next (first 3 plan8) (step 1 0) 14
-    -- R115, start guess: the writer met has no guess, one that is out, one that has fallen.
+    -- R115, start guess: the writer met has no guess, one that is out, one that is stored, one that has fallen.
     ∷ next (first 5 plan9) (step 1 2) 15
     ∷ next (first 6 plan9) (step 1 2) 15
     ∷ next (first 7 plan9) (step 1 2) 0
-    ∷ next planFallen (step 1 2) 15
+    ∷ next planFallen (step 1 2) 0
     -- 15, settle: a job not ready.
     ∷ next (first 6 plan8) (step 4 1) 15
     -- R116: a mark above 1; mark 1 of a job without a maybe-write.
@@ -382,7 +450,7 @@ table =
 pub examples-hold : AllHold Holds table
 unfolding resultOf tableOf conflicts touches
     perform answersTo afterAll cellRefusal askedCell jobAskRefusal shownJob askedJob isFinished askedBatch opened inserted sealedWith startedOwn startedSpeculation reportedOwn reportedSpeculation committedBy
-    withInserted withSealed withJobChanged inForm jobOut jobRefusal firstOf isReady isInvalid invalidBelow validity
+    withInserted withSealed withJobChanged inForm jobOut jobRefusal firstOf isReady isValid isInvalid validity sameHeight
     sourceBelow valueBelow setOf writeBack bit withBit hasJob withJob reachesTo anyBelow foldBelow tallied tallyBelow countBelow
     askedSpeculation shownSet leastBelow
 examples-hold =
@@ -399,6 +467,8 @@ examples-hold =
     also refl also refl also refl also refl also refl also refl also refl also refl  -- P12, after the end
     also refl also refl also refl also refl also refl also refl  -- P12, meanwhile
     also refl also refl also refl also refl also refl also refl also refl also refl also refl also refl  -- P13
+    also refl also refl also refl also refl also refl also refl also refl also refl also refl also refl also refl  -- P14
+    also refl also refl also refl also refl also refl also refl also refl also refl  -- P15
     also refl also refl  -- other guesses that are told of
     also refl also refl also refl also refl also refl also refl  -- how a guess is judged
     also refl  -- 12
