@@ -1,0 +1,53 @@
+-- `differs_at` meets its contract.
+use mathlib.Core.Bool.{not}
+use mathlib.Core.Path.{_≡_, ap}
+use lib.Dec.{eqb}
+use borrow.Author.Tests.{le-leb, lt-leb}
+use mir.Syntax.{w32}
+use mir.Val.{ofZ}
+use Rattle.laws.specs.SameHeight.{sameHeight, same-words}
+use Rattle.rules.specs.Values.{valueAt}
+use borrow.Author.Needs.{needs, sfits-of}
+use Rattle.runs.proofs.differs_at.Statement.{statement}
+use Rattle.runs.proofs.differs_at.Tie as tie
+
+cast-if1 : tie.Need-cast-if1
+cast-if1 c = search needs
+
+-- a place that is not in use
+returns : tie.Need-returns
+returns c = rw (le-leb _ _ (c .if1 .taken))
+
+mul-result : tie.Need-mul-result
+mul-result c = search needs
+
+array-copy-out-result : tie.Need-array-copy-out-result
+array-copy-out-result c = search needs
+
+mul-result-2 : tie.Need-mul-result-2
+mul-result-2 c = search needs
+
+array-copy-out-result-2 : tie.Need-array-copy-out-result-2
+array-copy-out-result-2 c = search needs
+
+-- the values compared
+returns-2 : tie.Need-returns-2
+returns-2 c =
+    let used = c .before .before in
+    let a = used .before .before .args in
+    let compared : eqb (ofZ w32 (valueAt (a .t2) (a .place))) (ofZ w32 (valueAt (a .t3) (a .place)))
+        ≡ sameHeight (valueAt (a .t2) (a .place)) (valueAt (a .t3) (a .place)) =
+        same-words (sfits-of {w = w32} (c .before .result .given)) (sfits-of {w = w32} (c .result2 .given)) in
+    rw (lt-leb _ _ (used .if1 .left)) (ap not compared)
+
+pub differs-at-spec : {M : Type 1} → statement M
+differs-at-spec =
+    tie.close
+    (tie.spec
+    cast-if1
+    returns
+    mul-result
+    array-copy-out-result
+    mul-result-2
+    array-copy-out-result-2
+    returns-2)
