@@ -16,6 +16,7 @@ use Rattle.dependence.specs.Ready.{isCommitted, ready}
 use Rattle.passes.specs.Chain.{chainLengthAt}
 use Rattle.rules.specs.Snapshot.{neverStarted, isStored, isLive}
 use Rattle.rules.specs.Speculation.{isInvalid, isReady, sourceMissing}
+use Rattle.rules.specs.SpeculationLaws.{judged-else}
 use Rattle.rules.specs.Call.{Call, startOwn, startSpeculation, commit}
 use Rattle.rules.specs.Refusals.{stepTests, refusalOf}
 use Rattle.engine.specs.declared.Batch.{Batch}
@@ -34,7 +35,10 @@ abbrev pub ownPasses : ℕ → ℕ → ℕ → Bool → Bool → Bool
 ownPasses how running phase ready invalid =
     eqb
     (firstOf
-    (when (isCommitted how || not (eqb running 0)) 13 ∷ when (not ready) 15 ∷ when (isLive phase && not invalid) 17 ∷ []))
+    (when (isCommitted how || not (eqb running 0)) 13
+    ∷ when (not ready) 15
+    ∷ when ((ready && isLive phase) && not invalid) 17
+    ∷ []))
     0
 
 abbrev pub speculationPasses : Bool → ℕ → ℕ → ℕ → Bool → Bool → Bool
@@ -112,7 +116,7 @@ module _ (b : Batch) (readies invalid : List Bool) (chains : List ℕ) (survey :
   own-is : ownPasses (getD (b .committed) j 0) (getD (b .running) j 0) (getD (b .phase) j 0) (getD readies j false) (getD invalid j false)
       ≡ allows (snapshotOf b) (startOwn j)
   unfolding refusalOf
-  own-is = rw (ready-at, invalid-at, held-then _)
+  own-is = rw (ready-at, invalid-at, held-then _, judged-else (snapshotOf b) j)
 
   speculation-is : speculationPasses (snapshotOf b .speculating) (getD (b .committed) j 0) (getD (b .running) j 0) (getD (b .phase) j 0)
       (getD readies j false) (sourceMissing (snapshotOf b) j)

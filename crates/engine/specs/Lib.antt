@@ -11,7 +11,6 @@ pub mod Ask
 pub mod AskLaws
 pub mod StepLaws
 pub mod SourceLimit
-pub mod SourceMissing
 pub mod Speculation
 pub mod InvalidPass
 pub mod Chooser

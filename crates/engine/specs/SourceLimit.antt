@@ -1,15 +1,19 @@
--- A speculative run is forwarded from earlier jobs only.
+-- A speculative run is forwarded from earlier jobs only, and the code's test of its sources is the rule's.
 use Prim.Native.Nat.{ℕ, zero, suc, _<_, _≤_}
 use native.Mathlib.Omega.{arith}
 use mathlib.Core.Bool.{Bool, true, false, cond}
 use mathlib.Core.List.{List}
 use mathlib.Core.Path.{_≡_}
 use lib.ListN.{getD}
+use Rattle.laws.specs.Search.{anyBelow}
 use Rattle.dependence.specs.declared.Job.{Job}
 use Rattle.dependence.specs.Job.{inUse, accessAt, jobAt}
 use Rattle.walk.specs.Sources.{sourceFor, sourceIn, sourcesOf, committedIn}
 use Rattle.walk.specs.SourceLaws.{source-le}
-use Rattle.engine.specs.Speculation.{SourcesHeld}
+use Rattle.rules.specs.Speculation.{sourceMissing}
+use Rattle.engine.specs.declared.Batch.{Batch}
+use Rattle.engine.specs.Record.{snapshotOf}
+use Rattle.engine.specs.Speculation.{unusableAny, SourcesHeld}
 
 pub source-limit : (jobs : List Job) (committed : List ℕ) (j place : ℕ) → sourceIn jobs committed j place ≤ j
 source-limit jobs committed j place = cases (inUse (jobAt jobs j) place)
@@ -28,3 +32,9 @@ sources-held jobs committed j sources small e place here = rw e (cases place her
     cases (suc (suc zero)) here = omega (arith, source-limit jobs committed j 2, small)
     cases (suc (suc (suc zero))) here = omega (arith, source-limit jobs committed j 3, small)
     cases (suc (suc (suc (suc place)))) here = absurd (omega arith)
+
+-- R115: they are missing by the code's test where they are by the rule's.
+pub missing-is : (b : Batch) (j : ℕ) (sources : List ℕ) → sources ≡ sourcesOf (b .jobs) (b .committed) j
+    → unusableAny sources (b .phase) ≡ sourceMissing (snapshotOf b) j
+unfolding anyBelow
+missing-is b j sources e = rw e

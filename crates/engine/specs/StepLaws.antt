@@ -9,13 +9,11 @@ use lib.ListN.{getD, set}
 use lib.Seq.{set-getD}
 use borrow.Author.Tests.{leb-false, eqb-true}
 use Rattle.laws.specs.Refusal.{Refusal, when, firstOf}
-use Rattle.laws.specs.Fold.{column}
-use Rattle.laws.specs.FoldLaws.{column-at}
 use Rattle.rules.specs.Refusals.{stepTests}
 use Rattle.laws.specs.SearchLaws.{or-right}
 use Rattle.dependence.specs.Ready.{isCommitted, ready}
 use Rattle.rules.specs.Snapshot.{isStored}
-use Rattle.rules.specs.Speculation.{isInvalid, isReady}
+use Rattle.rules.specs.Speculation.{isReady}
 use Rattle.engine.specs.declared.Batch.{Batch}
 use Rattle.engine.specs.Record.{snapshotOf}
 use Rattle.engine.specs.Form.{inForm}
@@ -37,13 +35,6 @@ step-early b j rest e = cases (inForm b) (not (snapshotOf b .sealed)) (leb (snap
     cases true true none e = refl
     cases true false true e = refl
     cases true false false e = absurd (let z : _≡_ {A = ℕ} 0 1 = cc in omega arith)
-
--- What the pass over the invalid runs says of a job held.
-pub held-invalid : (b : Batch) (j : ℕ) → j < b .«job_count» → b .«job_count» ≤ 128
-    → (flags : List Bool) → flags ≡ column 128 (b .«job_count») (isInvalid (snapshotOf b)) false
-    → getD flags j false ≡ isInvalid (snapshotOf b) j
-held-invalid b j held few flags f =
-    rw f (column-at 128 (b .«job_count») j (isInvalid (snapshotOf b)) false false held (omega (arith, held, few)))
 
 module _ (b : Batch) (j : ℕ) (e : stepRefusal b j ≡ 0) where
   unsealed-no : (not (snapshotOf b .sealed) ≡ false) × (firstOf (when (leb (snapshotOf b .jobCount) j) 11 ∷ []) ≡ 0)
@@ -107,10 +98,6 @@ module _ (b : Batch) (j : ℕ) {early : ℕ} (asked : early ≡ stepRefusal b j)
 
   pub few-of : early ≡ 0 → b .«job_count» ≤ 128
   few-of e = step-few b j (sym asked ∙ e)
-
-  pub invalid-of : early ≡ 0 → (flags : List Bool) → flags ≡ column 128 (b .«job_count») (isInvalid (snapshotOf b)) false
-      → getD flags j false ≡ isInvalid (snapshotOf b) j
-  invalid-of e = held-invalid b j (held-of e) (few-of e)
 
 -- What an accepted start of a speculative run answers.
 pub speculation-accepted : (b : Batch) (j : ℕ) → startSpeculationRefusal b j ≡ 0 → startedSpeculation b j ≡ speculationStarted b j

@@ -6,8 +6,8 @@ use native.Mathlib.Nat.{eq-or-lt-of-le, le-antisymm}
 use mathlib.Core.Bool.{Bool, true, false, true≢false, not, _||_, _&&_}
 use mathlib.Core.Path.{_≡_, refl, sym, ap, _∙_}
 use mathlib.Core.Logic.{⊎-elim}
-use lib.Dec.{eqb, ltb}
-use borrow.Author.Tests.{eqb-true, eqb-false, eq-eqb, ne-eqb, ltb-true, lt-ltb}
+use lib.Dec.{eqb}
+use borrow.Author.Tests.{eqb-true, eqb-false, eq-eqb, ne-eqb}
 use Rattle.laws.specs.Search.{anyBelow}
 
 -- Case distinction on a test, with the test's equation at hand.
@@ -147,22 +147,6 @@ pub any-swap : (n m : ℕ) (q : ℕ → ℕ → Bool)
 unfolding anyBelow
 any-swap zero m q = sym (any-never m)
 any-swap (suc n) m q = rw (any-swap n m q) (sym (any-or m (q n) (λ k. anyBelow n (λ i. q i k))))
-
--- A search among more numbers than a test allows is one among those it allows.
-pub any-narrow : (n j : ℕ) (p q : ℕ → Bool) → j ≤ n → anyBelow n (λ i. p i && (ltb i j && q i)) ≡ anyBelow j (λ i. p i && q i)
-any-narrow n j p q h =
-    if-or (anyBelow j (λ i. p i && q i))
-    (λ t.
-    let f = any-find j (λ i. p i && q i) t in
-    any-found n (f .place) (λ i. p i && (ltb i j && q i)) (omega (arith, f .below)) (rw (lt-ltb (f .place) j (f .below)) (f .holds))
-    ∙ sym t)
-    (λ e.
-    any-absent n (λ i. p i && (ltb i j && q i))
-    (λ i l.
-    if-or (ltb i j)
-    (λ t. rw t (any-fails j i (λ i. p i && q i) e (ltb-true i j t)))
-    (λ f. rw f (and-false (p i))))
-    ∙ sym e)
 
 -- Four tests made one after the other are a search below 4.
 pub four : (p : ℕ → Bool) {r a b c d : Bool}

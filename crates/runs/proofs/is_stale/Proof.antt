@@ -2,10 +2,9 @@
 use Prim.Native.Nat.{_≤_, _-_}
 use native.Mathlib.Omega.{arith}
 use mathlib.Core.Bool.{false}
-use mathlib.Core.Path.{_≡_, _∙_}
+use mathlib.Core.Path.{_≡_}
 use Rattle.laws.specs.Search.{anyBelow}
 use Rattle.laws.specs.SearchLaws.{any-none, found, passed, missed}
-use Rattle.rules.specs.Values.{valueAt, presentValues}
 use Rattle.runs.specs.RunLaws.{differsAt, present-stale}
 use Rattle.runs.proofs.is_stale.Statement.{statement}
 use Rattle.runs.proofs.is_stale.Tie as tie

@@ -3,14 +3,13 @@ use native.Mathlib.Omega.{arith}
 use borrow.Author.Needs.{needs}
 use Prim.Native.Nat.{_≤_, _<_, _+_, _-_}
 use mathlib.Core.Logic.{⊎-elim}
-use mathlib.Core.Path.{_≡_, refl, ap, _∙_}
+use mathlib.Core.Path.{_≡_, refl, _∙_}
 use lib.ListN.{length}
-use Rattle.laws.specs.FoldLaws.{length-column}
 use Rattle.rules.specs.Speculation.{sourceMissing}
 use Rattle.walk.specs.Nearest.{nearestBefore}
 use Rattle.walk.specs.NearestLaws.{nearest-none, nearest-more, nearest-sources}
 use Rattle.engine.specs.Record.{snapshotOf}
-use Rattle.engine.specs.SourceMissing.{missing-is}
+use Rattle.engine.specs.SourceLimit.{missing-is}
 use Rattle.engine.specs.ChooserPass.{stepCall, pickBefore, pick-none, pick-step, step-is}
 use Rattle.engine.proofs.Batch.pick_for.Statement.{statement}
 use Rattle.engine.proofs.Batch.pick_for.Tie as tie
@@ -64,12 +63,12 @@ array-copy-out-job c = omega arith
 sources-by-requires : tie.Need-sources-by-requires Inv-loop μ-loop
 sources-by-requires c κs = search needs
 
--- both columns have 128 places
+-- the column has 128 places
 unusable-any-requires : tie.Need-unusable-any-requires Inv-loop μ-loop
 unusable-any-requires c κs =
-    let s = c .before .before .before .before .before .before .before .before .before .before .before .before .before in
+    let s = c .before .before .before .before .before .before .before .before .before .before .before .before in
     let long : length (s .args .self .phase) ≡ 128 = search needs in
-    (long, ap length (s .pre .invalid-are) ∙ length-column 128 _ _ _)
+    long
 
 add-note-job : tie.Need-add-note-job Inv-loop μ-loop
 add-note-job c = omega arith
@@ -109,8 +108,8 @@ loop-again c =
     ⊎-elim
     (λ w.
     let from = w .3 .ensures .0 ∙ rw (l .inv .4 one) (nearest-sources (a .self .jobs) (a .self .committed) (l .j) (w .3 .ensures .1)) in (
-      w .10 ∙ w .6 .ensures ∙ missing-is (a .self) (l .j) (w .3 .result) (a .t4) held (s .pre .few) from (s .pre .invalid-are),
-      w .9 ∙ w .8 .ensures ∙ rw (l .inv .4 one) (nearest-more (a .self .jobs) (a .self .committed) (l .j)),
+      w .9 ∙ w .5 .ensures ∙ missing-is (a .self) (l .j) (w .3 .result) from,
+      w .8 ∙ w .7 .ensures ∙ rw (l .inv .4 one) (nearest-more (a .self .jobs) (a .self .committed) (l .j)),
     ))
     (λ w. absurd (w .0 .left one))
     (m .if1 .came) in (

@@ -1,9 +1,14 @@
 -- `Batch::shown_job` meets its contract.
 use mathlib.Core.Path.{_≡_, _∙_}
 use mathlib.Core.Logic.{⊎-elim}
+use lib.ListN.{getD}
+use borrow.Author.Tests.{ne-eqb}
+use Rattle.laws.specs.SearchLaws.{and-false}
+use Rattle.rules.specs.Snapshot.{isLive}
 use Rattle.rules.specs.Speculation.{validity}
 use Rattle.engine.specs.Record.{snapshotOf}
 use Rattle.engine.specs.Ask.{shownJob}
+use Rattle.engine.specs.InvalidPass.{validity-is}
 use borrow.Author.Needs.{needs}
 use Rattle.engine.proofs.Batch.shown_job.Statement.{statement}
 use Rattle.engine.proofs.Batch.shown_job.Tie as tie
@@ -40,15 +45,18 @@ shown-mark-requires c κs = search needs
 
 -- the mark is the one shown, and the validity the one found
 returns : tie.Need-returns
-unfolding shownJob validity
+unfolding shownJob
 returns c =
     let m = c .before .before .before in
-    let a = m .before .before .before .before .before .before .before .args in
+    let a = m .before .before .before .before .before .before .args in
     let found : m .if1 .validity ≡ validity (snapshotOf (a .t1)) (a .j) =
-    ⊎-elim
-    (λ w. w .2 ∙ w .1 .ensures ∙ rw (← m .before .is-live .ensures, w .0 .taken))
-    (λ w. w .1 ∙ rw (← m .before .is-live .ensures, w .0 .left))
-    (m .if1 .came) in
+    rw (← validity-is (a .t1) (a .j))
+    (⊎-elim
+    (λ w. w .4 ∙ w .3 .ensures ∙ rw (← w .1 .ensures, w .2 .taken, w .0 .taken))
+    (⊎-elim
+    (λ w. w .3 ∙ rw (← w .1 .ensures, w .2 .left))
+    (λ w. w .1 ∙ rw (ne-eqb _ _ (w .0 .left), and-false (isLive (getD (a .t1 .phase) (a .j) 0)))))
+    (m .if1 .came)) in
     rw (c .before .before .shown-mark .ensures, found)
 
 pub shown-job-spec : {M : Type 1} → statement M

@@ -3,10 +3,12 @@ use native.Mathlib.Omega.{arith}
 use lib.Seq.{set-getD}
 use borrow.Author.Tests.{ne-eqb}
 use Rattle.engine.specs.Steps.{committedBy, withJobChanged}
-use Rattle.engine.specs.StepLaws.{refused-early, place-of, few-of, own-tests, invalid-of, ready-is, stored-stays}
-use mathlib.Core.Path.{sym, _∙_}
+use Rattle.engine.specs.StepLaws.{refused-early, place-of, own-tests, ready-is, stored-stays}
+use Rattle.engine.specs.InvalidPass.{invalid-is}
+use mathlib.Core.Path.{_≡_, sym, _∙_}
 use lib.ListN.{getD}
-use Rattle.engine.specs.Record.{noRun}
+use Rattle.rules.specs.Speculation.{isInvalid}
+use Rattle.engine.specs.Record.{noRun, snapshotOf}
 use borrow.Author.Needs.{needs}
 use Rattle.engine.proofs.Batch.speculation_committed.Statement.{statement}
 use Rattle.engine.proofs.Batch.speculation_committed.Tie as tie
@@ -37,17 +39,32 @@ element-copy-out-phase c =
 is-ready-requires : tie.Need-is-ready-requires
 is-ready-requires c κs = search needs
 
-invalid-flags-requires : tie.Need-invalid-flags-requires
-invalid-flags-requires c κs =
+mul-job : tie.Need-mul-job
+mul-job c =
     let e = c .before .before .before .before in
     let a = e .before .before .args in
-    few-of (a .t1) (a .j) (e .before .step-refusal .ensures) (e .if1 .left)
+    omega (arith, place-of (a .t1) (a .j) (e .before .step-refusal .ensures) (e .if1 .left))
 
-array-read-invalid : tie.Need-array-read-invalid
-array-read-invalid c =
+array-copy-out-job : tie.Need-array-copy-out-job
+array-copy-out-job c =
+    let e = c .before .before .before .before in
+    let a = e .before .before .args in
+    omega (arith, place-of (a .t1) (a .j) (e .before .step-refusal .ensures) (e .if1 .left))
+
+mul-run : tie.Need-mul-run
+mul-run c =
     let e = c .before .before .before .before .before in
     let a = e .before .before .args in
     omega (arith, place-of (a .t1) (a .j) (e .before .step-refusal .ensures) (e .if1 .left))
+
+element-copy-out-run : tie.Need-element-copy-out-run
+element-copy-out-run c =
+    let e = c .before .before .before .before .before in
+    let a = e .before .before .args in
+    omega (arith, place-of (a .t1) (a .j) (e .before .step-refusal .ensures) (e .if1 .left))
+
+is-invalid-requires : tie.Need-is-invalid-requires
+is-invalid-requires c κs = search needs
 
 commit-refusal-requires : tie.Need-commit-refusal-requires
 commit-refusal-requires c κs = search needs
@@ -57,43 +74,21 @@ returns-2 : tie.Need-returns-2
 unfolding committedBy
 returns-2 c =
     let r = c .before in
-    let flags = r .before in
-    let ready = flags .before in
-    let e = r .before .before .before .before .before .before in
+    let invalid = r .before in
+    let ready = invalid .before .before .before .before in
+    let e = ready .before .before .before .before in
     let a = e .before .before .args in
     let asked = e .before .step-refusal .ensures in
+    let judged : invalid .is-invalid .result ≡ isInvalid (snapshotOf (a .t1)) (a .j) =
+        invalid-is (a .t1) (a .j) (ready .is-ready .ensures) (invalid .is-invalid .ensures) in
     rw (
       own-tests (a .t1) (a .j) asked (e .if1 .left) _,
       ready-is (a .t1) (a .j),
       ← ready .is-ready .ensures,
-      ← invalid-of (a .t1) (a .j) asked (e .if1 .left) (flags .invalid-flags .result) (flags .invalid-flags .ensures),
+      ← judged,
       ← r .commit-refusal .ensures,
       ne-eqb _ _ (c .if2 .taken),
     )
-
-mul-job : tie.Need-mul-job
-mul-job c =
-    let e = c .before .before .before .before .before .before .before in
-    let a = e .before .before .args in
-    omega (arith, place-of (a .t1) (a .j) (e .before .step-refusal .ensures) (e .if1 .left))
-
-array-copy-out-job : tie.Need-array-copy-out-job
-array-copy-out-job c =
-    let e = c .before .before .before .before .before .before .before in
-    let a = e .before .before .args in
-    omega (arith, place-of (a .t1) (a .j) (e .before .step-refusal .ensures) (e .if1 .left))
-
-mul-run : tie.Need-mul-run
-mul-run c =
-    let e = c .before .before .before .before .before .before .before .before in
-    let a = e .before .before .args in
-    omega (arith, place-of (a .t1) (a .j) (e .before .step-refusal .ensures) (e .if1 .left))
-
-element-copy-out-run : tie.Need-element-copy-out-run
-element-copy-out-run c =
-    let e = c .before .before .before .before .before .before .before .before in
-    let a = e .before .before .args in
-    omega (arith, place-of (a .t1) (a .j) (e .before .step-refusal .ensures) (e .if1 .left))
 
 write-back-requires : tie.Need-write-back-requires
 write-back-requires c κs = search needs
@@ -108,18 +103,20 @@ element-write-self c =
 returns-3 : tie.Need-returns-3
 unfolding committedBy withJobChanged
 returns-3 c =
-    let t = c .before .before .before .before .before in
+    let t = c .before .before in
     let r = t .before in
-    let flags = r .before in
-    let ready = flags .before in
-    let e = r .before .before .before .before .before .before in
+    let invalid = r .before in
+    let ready = invalid .before .before .before .before in
+    let e = ready .before .before .before .before in
     let a = e .before .before .args in
     let asked = e .before .step-refusal .ensures in
+    let judged : invalid .is-invalid .result ≡ isInvalid (snapshotOf (a .t1)) (a .j) =
+        invalid-is (a .t1) (a .j) (ready .is-ready .ensures) (invalid .is-invalid .ensures) in
     rw (
       own-tests (a .t1) (a .j) asked (e .if1 .left) _,
       ready-is (a .t1) (a .j),
       ← ready .is-ready .ensures,
-      ← invalid-of (a .t1) (a .j) asked (e .if1 .left) (flags .invalid-flags .result) (flags .invalid-flags .ensures),
+      ← judged,
       ← r .commit-refusal .ensures,
       t .if2 .left,
       c .write-back .ensures,
@@ -137,14 +134,13 @@ speculation-committed-spec =
     array-read-how
     element-copy-out-phase
     is-ready-requires
-    invalid-flags-requires
-    array-read-invalid
-    commit-refusal-requires
-    returns-2
     mul-job
     array-copy-out-job
     mul-run
     element-copy-out-run
+    is-invalid-requires
+    commit-refusal-requires
+    returns-2
     write-back-requires
     element-write-self
     returns-3)

@@ -1,8 +1,13 @@
 -- `Batch::start_own` meets its contract: what every step asks, then its own tests, then the change.
 use native.Mathlib.Omega.{arith}
+use mathlib.Core.Path.{_≡_}
 use borrow.Author.Tests.{ne-eqb}
+use Rattle.rules.specs.Speculation.{isInvalid}
+use Rattle.rules.specs.SpeculationLaws.{judged-else}
+use Rattle.engine.specs.Record.{snapshotOf}
 use Rattle.engine.specs.Steps.{startedOwn, withJobChanged}
-use Rattle.engine.specs.StepLaws.{refused-early, place-of, few-of, own-tests, invalid-of, ready-is}
+use Rattle.engine.specs.StepLaws.{refused-early, place-of, own-tests, ready-is}
+use Rattle.engine.specs.InvalidPass.{invalid-is}
 use borrow.Author.Needs.{needs}
 use Rattle.engine.proofs.Batch.start_own.Statement.{statement}
 use Rattle.engine.proofs.Batch.start_own.Tie as tie
@@ -39,17 +44,32 @@ element-copy-out-phase c =
 is-ready-requires : tie.Need-is-ready-requires
 is-ready-requires c κs = search needs
 
-invalid-flags-requires : tie.Need-invalid-flags-requires
-invalid-flags-requires c κs =
+mul-job : tie.Need-mul-job
+mul-job c =
     let e = c .before .before .before .before .before in
     let a = e .before .before .args in
-    few-of (a .t1) (a .j) (e .before .step-refusal .ensures) (e .if1 .left)
+    omega (arith, place-of (a .t1) (a .j) (e .before .step-refusal .ensures) (e .if1 .left))
 
-array-read-invalid : tie.Need-array-read-invalid
-array-read-invalid c =
+array-copy-out-job : tie.Need-array-copy-out-job
+array-copy-out-job c =
+    let e = c .before .before .before .before .before in
+    let a = e .before .before .args in
+    omega (arith, place-of (a .t1) (a .j) (e .before .step-refusal .ensures) (e .if1 .left))
+
+mul-old : tie.Need-mul-old
+mul-old c =
     let e = c .before .before .before .before .before .before in
     let a = e .before .before .args in
     omega (arith, place-of (a .t1) (a .j) (e .before .step-refusal .ensures) (e .if1 .left))
+
+element-copy-out-old : tie.Need-element-copy-out-old
+element-copy-out-old c =
+    let e = c .before .before .before .before .before .before in
+    let a = e .before .before .args in
+    omega (arith, place-of (a .t1) (a .j) (e .before .step-refusal .ensures) (e .if1 .left))
+
+is-invalid-requires : tie.Need-is-invalid-requires
+is-invalid-requires c κs = search needs
 
 start-own-refusal-requires : tie.Need-start-own-refusal-requires
 start-own-refusal-requires c κs = search needs
@@ -59,31 +79,22 @@ returns-2 : tie.Need-returns-2
 unfolding startedOwn
 returns-2 c =
     let r = c .before in
-    let flags = r .before in
-    let ready = flags .before in
-    let e = r .before .before .before .before .before .before .before in
+    let invalid = r .before in
+    let ready = invalid .before .before .before .before in
+    let e = ready .before .before .before .before .before in
     let a = e .before .before .args in
     let asked = e .before .step-refusal .ensures in
+    let judged : invalid .is-invalid .result ≡ isInvalid (snapshotOf (a .t1)) (a .j) =
+        invalid-is (a .t1) (a .j) (ready .is-ready .ensures) (invalid .is-invalid .ensures) in
     rw (
       own-tests (a .t1) (a .j) asked (e .if1 .left) _,
+      judged-else (snapshotOf (a .t1)) (a .j),
       ready-is (a .t1) (a .j),
       ← ready .is-ready .ensures,
-      ← invalid-of (a .t1) (a .j) asked (e .if1 .left) (flags .invalid-flags .result) (flags .invalid-flags .ensures),
+      ← judged,
       ← r .start-own-refusal .ensures,
       ne-eqb _ _ (c .if2 .taken),
     )
-
-mul-job : tie.Need-mul-job
-mul-job c =
-    let e = c .before .before .before .before .before .before .before .before in
-    let a = e .before .before .args in
-    omega (arith, place-of (a .t1) (a .j) (e .before .step-refusal .ensures) (e .if1 .left))
-
-array-copy-out-job : tie.Need-array-copy-out-job
-array-copy-out-job c =
-    let e = c .before .before .before .before .before .before .before .before in
-    let a = e .before .before .args in
-    omega (arith, place-of (a .t1) (a .j) (e .before .step-refusal .ensures) (e .if1 .left))
 
 present-values-requires : tie.Need-present-values-requires
 present-values-requires c κs = search needs
@@ -96,31 +107,31 @@ discarded-phase-requires c κs = search needs
 
 mul-run : tie.Need-mul-run
 mul-run c =
-    let e = c .before .before .before .before .before .before .before .before .before .before .before .before .before in
+    let e = c .before .before .before .before .before .before .before .before .before .before .before .before .before .before in
     let a = e .before .before .args in
     omega (arith, place-of (a .t1) (a .j) (e .before .step-refusal .ensures) (e .if1 .left))
 
 element-set-from-run : tie.Need-element-set-from-run
 element-set-from-run c =
-    let e = c .before .before .before .before .before .before .before .before .before .before .before .before .before in
+    let e = c .before .before .before .before .before .before .before .before .before .before .before .before .before .before in
     let a = e .before .before .args in
     omega (arith, place-of (a .t1) (a .j) (e .before .step-refusal .ensures) (e .if1 .left))
 
 element-write-self : tie.Need-element-write-self
 element-write-self c =
-    let e = c .before .before .before .before .before .before .before .before .before .before .before .before .before in
+    let e = c .before .before .before .before .before .before .before .before .before .before .before .before .before .before in
     let a = e .before .before .args in
     omega (arith, place-of (a .t1) (a .j) (e .before .step-refusal .ensures) (e .if1 .left))
 
 element-write-self-2 : tie.Need-element-write-self-2
 element-write-self-2 c =
-    let e = c .before .before .before .before .before .before .before .before .before .before .before .before .before in
+    let e = c .before .before .before .before .before .before .before .before .before .before .before .before .before .before in
     let a = e .before .before .args in
     omega (arith, place-of (a .t1) (a .j) (e .before .step-refusal .ensures) (e .if1 .left))
 
 element-write-self-3 : tie.Need-element-write-self-3
 element-write-self-3 c =
-    let e = c .before .before .before .before .before .before .before .before .before .before .before .before .before in
+    let e = c .before .before .before .before .before .before .before .before .before .before .before .before .before .before in
     let a = e .before .before .args in
     omega (arith, place-of (a .t1) (a .j) (e .before .step-refusal .ensures) (e .if1 .left))
 
@@ -130,18 +141,21 @@ unfolding startedOwn withJobChanged
 returns-3 c =
     let run = c .before in
     let values = run .before in
-    let t = values .before .before .before in
+    let t = values .before in
     let r = t .before in
-    let flags = r .before in
-    let ready = flags .before in
-    let e = r .before .before .before .before .before .before .before in
+    let invalid = r .before in
+    let ready = invalid .before .before .before .before in
+    let e = ready .before .before .before .before .before in
     let a = e .before .before .args in
     let asked = e .before .step-refusal .ensures in
+    let judged : invalid .is-invalid .result ≡ isInvalid (snapshotOf (a .t1)) (a .j) =
+        invalid-is (a .t1) (a .j) (ready .is-ready .ensures) (invalid .is-invalid .ensures) in
     rw (
       own-tests (a .t1) (a .j) asked (e .if1 .left) _,
+      judged-else (snapshotOf (a .t1)) (a .j),
       ready-is (a .t1) (a .j),
       ← ready .is-ready .ensures,
-      ← invalid-of (a .t1) (a .j) asked (e .if1 .left) (flags .invalid-flags .result) (flags .invalid-flags .ensures),
+      ← judged,
       ← r .start-own-refusal .ensures,
       t .if2 .left,
       c .discarded-phase .ensures,
@@ -159,12 +173,13 @@ start-own-spec =
     element-copy-out-running
     element-copy-out-phase
     is-ready-requires
-    invalid-flags-requires
-    array-read-invalid
-    start-own-refusal-requires
-    returns-2
     mul-job
     array-copy-out-job
+    mul-old
+    element-copy-out-old
+    is-invalid-requires
+    start-own-refusal-requires
+    returns-2
     present-values-requires
     new-run-requires
     discarded-phase-requires

@@ -2,12 +2,10 @@
 use native.Mathlib.Omega.{arith}
 use borrow.Author.Tests.{ne-eqb}
 use Rattle.engine.specs.Steps.{startSpeculationRefusal, startedSpeculation, withJobChanged}
-use Rattle.engine.specs.StepLaws.{refused-early, place-of, held-of, few-of, own-tests, ready-is, speculation-accepted}
-use Rattle.engine.specs.SourceLimit.{sources-held}
-use Rattle.engine.specs.SourceMissing.{missing-is}
-use Rattle.laws.specs.FoldLaws.{length-column}
+use Rattle.engine.specs.StepLaws.{refused-early, place-of, own-tests, ready-is, speculation-accepted}
+use Rattle.engine.specs.SourceLimit.{sources-held, missing-is}
 use lib.ListN.{length}
-use mathlib.Core.Path.{_≡_, ap, sym, _∙_}
+use mathlib.Core.Path.{_≡_, sym}
 use borrow.Author.Needs.{needs}
 use Rattle.engine.proofs.Batch.start_speculation.Statement.{statement}
 use Rattle.engine.proofs.Batch.start_speculation.Tie as tie
@@ -44,22 +42,15 @@ array-read-phase c =
 is-ready-requires : tie.Need-is-ready-requires
 is-ready-requires c κs = search needs
 
-invalid-flags-requires : tie.Need-invalid-flags-requires
-invalid-flags-requires c κs =
-    let e = c .before .before .before .before .before in
-    let a = e .before .before .args in
-    few-of (a .t1) (a .j) (e .before .step-refusal .ensures) (e .if1 .left)
-
 sources-requires : tie.Need-sources-requires
 sources-requires c κs = search needs
 
 unusable-any-requires : tie.Need-unusable-any-requires
 unusable-any-requires c κs =
-    let flags = c .before .before .before in
-    let s = flags .before .before .before .before .before .before .before .before in
+    let s = c .before .before .before .before .before .before .before .before .before in
     let g = s .good .0 .1 .1 .1 .1 .1 .1 .1 .1 .1 .1 .1 in
     let long : length (s .args .t1 .phase) ≡ 128 = search needs in
-    (long, ap length (flags .invalid-flags .ensures) ∙ length-column 128 _ _ _)
+    long
 
 start-speculation-refusal-requires : tie.Need-start-speculation-refusal-requires
 start-speculation-refusal-requires c κs = search needs
@@ -70,9 +61,8 @@ unfolding startedSpeculation
 returns-2 c =
     let r = c .before in
     let missing = r .before in
-    let sources = missing .before .before .before in
-    let flags = sources .before in
-    let ready = flags .before in
+    let sources = missing .before .before in
+    let ready = sources .before in
     let e = ready .before .before .before .before .before in
     let a = e .before .before .args in
     let asked = e .before .step-refusal .ensures in
@@ -80,8 +70,7 @@ returns-2 c =
       own-tests (a .t1) (a .j) asked (e .if1 .left) _,
       ready-is (a .t1) (a .j),
       ← ready .is-ready .ensures,
-      ← missing-is (a .t1) (a .j) (sources .sources .result) (flags .invalid-flags .result) (held-of (a .t1) (a .j) asked (e .if1 .left))
-          (few-of (a .t1) (a .j) asked (e .if1 .left)) (sources .sources .ensures) (flags .invalid-flags .ensures),
+      ← missing-is (a .t1) (a .j) (sources .sources .result) (sources .sources .ensures),
       ← missing .unusable-any .ensures,
       ← r .start-speculation-refusal .ensures,
       ne-eqb _ _ (c .if2 .taken),
@@ -89,13 +78,13 @@ returns-2 c =
 
 mul-job : tie.Need-mul-job
 mul-job c =
-    let e = c .before .before .before .before .before .before .before .before .before .before .before .before in
+    let e = c .before .before .before .before .before .before .before .before .before .before in
     let a = e .before .before .args in
     omega (arith, place-of (a .t1) (a .j) (e .before .step-refusal .ensures) (e .if1 .left))
 
 array-copy-out-job : tie.Need-array-copy-out-job
 array-copy-out-job c =
-    let e = c .before .before .before .before .before .before .before .before .before .before .before .before in
+    let e = c .before .before .before .before .before .before .before .before .before .before in
     let a = e .before .before .args in
     omega (arith, place-of (a .t1) (a .j) (e .before .step-refusal .ensures) (e .if1 .left))
 
@@ -106,9 +95,8 @@ forwarded-values-requires : tie.Need-forwarded-values-requires
 forwarded-values-requires c κs =
     let r = c .before .before .before .before in
     let missing = r .before in
-    let sources = missing .before .before .before in
-    let flags = sources .before in
-    let ready = flags .before in
+    let sources = missing .before .before in
+    let ready = sources .before in
     let e = ready .before .before .before .before .before in
     let a = e .before .before .args in
     let asked = e .before .step-refusal .ensures in
@@ -122,31 +110,31 @@ new-run-requires c κs = search needs
 
 mul-run : tie.Need-mul-run
 mul-run c =
-    let e = c .before .before .before .before .before .before .before .before .before .before .before .before .before .before .before .before .before .before in
+    let e = c .before .before .before .before .before .before .before .before .before .before .before .before .before .before .before .before in
     let a = e .before .before .args in
     omega (arith, place-of (a .t1) (a .j) (e .before .step-refusal .ensures) (e .if1 .left))
 
 element-set-from-run : tie.Need-element-set-from-run
 element-set-from-run c =
-    let e = c .before .before .before .before .before .before .before .before .before .before .before .before .before .before .before .before .before .before in
+    let e = c .before .before .before .before .before .before .before .before .before .before .before .before .before .before .before .before in
     let a = e .before .before .args in
     omega (arith, place-of (a .t1) (a .j) (e .before .step-refusal .ensures) (e .if1 .left))
 
 element-write-self : tie.Need-element-write-self
 element-write-self c =
-    let e = c .before .before .before .before .before .before .before .before .before .before .before .before .before .before .before .before .before .before in
+    let e = c .before .before .before .before .before .before .before .before .before .before .before .before .before .before .before .before in
     let a = e .before .before .args in
     omega (arith, place-of (a .t1) (a .j) (e .before .step-refusal .ensures) (e .if1 .left))
 
 element-write-self-2 : tie.Need-element-write-self-2
 element-write-self-2 c =
-    let e = c .before .before .before .before .before .before .before .before .before .before .before .before .before .before .before .before .before .before in
+    let e = c .before .before .before .before .before .before .before .before .before .before .before .before .before .before .before .before in
     let a = e .before .before .args in
     omega (arith, place-of (a .t1) (a .j) (e .before .step-refusal .ensures) (e .if1 .left))
 
 element-write-self-3 : tie.Need-element-write-self-3
 element-write-self-3 c =
-    let e = c .before .before .before .before .before .before .before .before .before .before .before .before .before .before .before .before .before .before in
+    let e = c .before .before .before .before .before .before .before .before .before .before .before .before .before .before .before .before in
     let a = e .before .before .args in
     omega (arith, place-of (a .t1) (a .j) (e .before .step-refusal .ensures) (e .if1 .left))
 
@@ -159,9 +147,8 @@ returns-3 c =
     let t = values .before .before .before .before in
     let r = t .before in
     let missing = r .before in
-    let sources = missing .before .before .before in
-    let flags = sources .before in
-    let ready = flags .before in
+    let sources = missing .before .before in
+    let ready = sources .before in
     let e = ready .before .before .before .before .before in
     let a = e .before .before .args in
     let asked = e .before .step-refusal .ensures in
@@ -169,8 +156,7 @@ returns-3 c =
       own-tests (a .t1) (a .j) asked (e .if1 .left) _,
       ready-is (a .t1) (a .j),
       ← ready .is-ready .ensures,
-      ← missing-is (a .t1) (a .j) (sources .sources .result) (flags .invalid-flags .result) (held-of (a .t1) (a .j) asked (e .if1 .left))
-          (few-of (a .t1) (a .j) asked (e .if1 .left)) (sources .sources .ensures) (flags .invalid-flags .ensures),
+      ← missing-is (a .t1) (a .j) (sources .sources .result) (sources .sources .ensures),
       ← missing .unusable-any .ensures,
       ← r .start-speculation-refusal .ensures,
     ) (t .if2 .left) in
@@ -193,7 +179,6 @@ start-speculation-spec =
     element-copy-out-running
     array-read-phase
     is-ready-requires
-    invalid-flags-requires
     sources-requires
     unusable-any-requires
     start-speculation-refusal-requires

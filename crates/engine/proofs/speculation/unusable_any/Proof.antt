@@ -11,16 +11,16 @@ use Rattle.engine.proofs.speculation.unusable_any.Tie as tie
 
 -- no place passed has such a source
 abbrev Inv-loop : tie.InvT-loop
-Inv-loop sources phases invalid place₀ place = (place ≤ 4) × (anyBelow place (unusableAt sources phases invalid) ≡ false)
+Inv-loop sources phases place₀ place = (place ≤ 4) × (anyBelow place (unusableAt sources phases) ≡ false)
 
 abbrev μ-loop : tie.MeasureT-loop
-μ-loop sources phases invalid place₀ place = 4 - place
+μ-loop sources phases place₀ place = 4 - place
 
 loop-holds : tie.Need-loop-holds Inv-loop μ-loop
 loop-holds c = (omega arith, any-none _)
 
 unusable-at-requires : tie.Need-unusable-at-requires Inv-loop μ-loop
-unusable-at-requires c κs = (omega arith, c .before .before .pre .0, c .before .before .pre .1)
+unusable-at-requires c κs = (omega arith, c .before .before .pre)
 
 -- one has
 returns : tie.Need-returns Inv-loop μ-loop

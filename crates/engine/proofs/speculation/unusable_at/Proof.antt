@@ -28,19 +28,12 @@ returns-2 c =
     let none : length (now (a .phases)) ≤ getD (a .t1) (a .place) 0 - 1 = omega (arith, c .before .before .pre .1) in
     rw (ne-eqb _ _ (c .before .if1 .left), List·getD-eq-default (now (a .phases)) 0 none)
 
-element-copy-out-if3 : tie.Need-element-copy-out-if3
-element-copy-out-if3 c = search needs
-
--- nothing stored
-returns-3 : tie.Need-returns-3
-returns-3 c = rw (ne-eqb _ _ (c .before .before .before .if1 .left), ne-eqb _ _ (c .if3 .taken))
-
 element-copy-out-result : tie.Need-element-copy-out-result
 element-copy-out-result c = search needs
 
--- stored: valid or not
-returns-4 : tie.Need-returns-4
-returns-4 c = rw (ne-eqb _ _ (c .before .before .before .before .if1 .left), eq-eqb _ _ (c .before .if3 .left))
+-- stored or not
+returns-3 : tie.Need-returns-3
+returns-3 c = rw (ne-eqb _ _ (c .before .before .if1 .left))
 
 pub unusable-at-spec : {M : Type 1} → statement M
 unusable-at-spec =
@@ -51,7 +44,5 @@ unusable-at-spec =
     returns
     sub-w
     returns-2
-    element-copy-out-if3
-    returns-3
     element-copy-out-result
-    returns-4)
+    returns-3)
