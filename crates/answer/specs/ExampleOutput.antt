@@ -5,12 +5,13 @@ use mathlib.Core.Path.{_≡_, ap}
 use Rattle.laws.specs.Search.{anyBelow}
 use Rattle.laws.specs.Fold.{foldBelow}
 use Rattle.laws.specs.Refusal.{firstOf}
+use Rattle.laws.specs.SameHeight.{sameHeight}
 use Rattle.dependence.specs.Conflict.{touches, conflicts}
 use Rattle.admission.specs.Admission.{jobRefusal}
 use Rattle.jobset.specs.JobSet.{bit, withBit, hasJob, withJob, reachesTo}
 use Rattle.rules.specs.Values.{writeBack}
 use Rattle.rules.specs.Walk.{sourceBelow}
-use Rattle.rules.specs.Speculation.{isReady, invalidBelow, isInvalid}
+use Rattle.rules.specs.Speculation.{isReady, isValid, isInvalid}
 use Rattle.walk.specs.Sources.{setOf}
 use Rattle.engine.specs.Form.{jobOut, inForm}
 use Rattle.engine.specs.Opening.{opened, withInserted, inserted, withSealed, sealedWith}
@@ -50,6 +51,6 @@ unfolding outputOf readingText partsText jobsText cellsText stepsText batchAfter
     stepped startedOwn startedSpeculation reportedOwn reportedSpeculation committedBy withJobChanged
     cellRefusal askedCell jobAskRefusal shownJob askedJob isFinished askedBatch resultOf tableOf
     opened withInserted inserted withSealed sealedWith inForm jobOut jobRefusal firstOf
-    isReady isInvalid invalidBelow sourceBelow setOf writeBack conflicts touches
+    isReady isValid isInvalid sameHeight sourceBelow setOf writeBack conflicts touches
     bit withBit hasJob withJob reachesTo anyBelow foldBelow digitsWithin decimal heightText
 example-answered = ap (λ (r : Reading). readingText r (pieces lineFeed examplePlan)) example-plan-read
