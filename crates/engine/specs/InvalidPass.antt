@@ -59,5 +59,5 @@ module _ (b : Batch) (j : ℕ) where
   invalid-step {readies} held few e f g =
       let low : j < 128 = omega (arith, held, few) in
       let ready-at : getD readies j false ≡ ready (b .jobs) (b .committed) j =
-          rw e (column-at 128 (b .«job_count») j (ready (b .jobs) (b .committed)) false false held low) in
+      rw e (column-at 128 (b .«job_count») j (ready (b .jobs) (b .committed)) false false held low) in
       rw (invalid-is ready-at g, f) (column-more 128 j (isInvalid (snapshotOf b)) false low)

@@ -93,12 +93,6 @@ module _ (b : Batch) (j : ℕ) {early : ℕ} (asked : early ≡ stepRefusal b j)
   pub own-tests : early ≡ 0 → (rest : List Refusal) → refusalOn b (stepTests (snapshotOf b) j rest) ≡ firstOf rest
   own-tests e = step-then b j (sym asked ∙ e)
 
-  pub held-of : early ≡ 0 → j < b .«job_count»
-  held-of e = step-held b j (sym asked ∙ e)
-
-  pub few-of : early ≡ 0 → b .«job_count» ≤ 128
-  few-of e = step-few b j (sym asked ∙ e)
-
 -- What an accepted start of a speculative run answers.
 pub speculation-accepted : (b : Batch) (j : ℕ) → startSpeculationRefusal b j ≡ 0 → startedSpeculation b j ≡ speculationStarted b j
 unfolding startedSpeculation

@@ -5,7 +5,7 @@ use native.Mathlib.Numerals.{add-one}
 use native.Mathlib.Nat.{add-zero, add-suc, sub-zero, suc-sub-suc, eq-or-lt-of-le}
 use mathlib.Core.Logic.{⊎-elim, _≢_}
 use mathlib.Core.Bool.{Bool, true, false, cond, _&&_, _||_}
-use mathlib.Core.List.{List, [], _∷_, _++_, append-assoc}
+use mathlib.Core.List.{List, [], _∷_, append-assoc}
 use mathlib.Core.Path.{_≡_, refl, sym, ap, _∙_}
 use lib.Dec.{eqb}
 use lib.ListN.{length, getD, set, drop, replicate, length-append, length-set, length-replicate, List·getD-append}
@@ -136,23 +136,6 @@ unfolding column
 length-column size n f z =
     length-append (upTo (min n size) f) (replicate (size - n) z)
     ∙ rw (length-upTo (min n size) f, length-replicate (size - n) z) (omega arith)
-
--- Read with z where nothing stands, the array is the list of its values.
-getD-blank : {A : Type 0} (m i : ℕ) (z : A) → getD (replicate m z) i z ≡ z
-getD-blank zero i z = refl
-getD-blank (suc m) zero z = refl
-getD-blank (suc m) (suc i) z = getD-blank m i z
-
-getD-padded : {A : Type 0} (l : List A) (m i : ℕ) (z : A) → getD (l ++ replicate m z) i z ≡ getD l i z
-getD-padded [] m i z = getD-blank m i z
-getD-padded (a ∷ l) m zero z = refl
-getD-padded (a ∷ l) m (suc i) z = getD-padded l m i z
-
-pub column-get : {A : Type 0} (size n i : ℕ) (f : ℕ → A) (z : A) → n ≤ size → getD (column size n f z) i z ≡ getD (upTo n f) i z
-unfolding column
-column-get size n i f z h =
-    let e : min n size ≡ n = omega arith in
-    rw e (getD-padded (upTo n f) (size - n) i z)
 
 -- More places than the array has are as many as it has.
 pub column-min : {A : Type 0} (size n : ℕ) (f : ℕ → A) (z : A) → column size (min n size) f z ≡ column size n f z

@@ -36,8 +36,8 @@ returns-2 c =
     let used = c .before .before in
     let a = used .before .before .args in
     let compared : eqb (ofZ w32 (valueAt (a .t2) (a .place))) (ofZ w32 (valueAt (a .t3) (a .place)))
-        ≡ sameHeight (valueAt (a .t2) (a .place)) (valueAt (a .t3) (a .place)) =
-        same-words (sfits-of {w = w32} (c .before .result .given)) (sfits-of {w = w32} (c .result2 .given)) in
+    ≡ sameHeight (valueAt (a .t2) (a .place)) (valueAt (a .t3) (a .place)) =
+    same-words (sfits-of {w = w32} (c .before .result .given)) (sfits-of {w = w32} (c .result2 .given)) in
     rw (lt-leb _ _ (used .if1 .left)) (ap not compared)
 
 pub differs-at-spec : {M : Type 1} → statement M

@@ -28,10 +28,11 @@ ready-flags-requires c κs = search needs
 -- a record in form has at most 128 jobs
 invalid-flags-requires : tie.Need-invalid-flags-requires
 invalid-flags-requires c κs =
-    let e = c .before .before .before .before in
-    (form-counts (e .before .before .before .before .args .self)
-    (sym (e .before .before .before .is-in-form .ensures) ∙ e .before .before .if1 .taken) .few-jobs,
-    c .ready-flags .ensures)
+    let e = c .before .before .before .before in (
+      form-counts (e .before .before .before .before .args .self)
+          (sym (e .before .before .before .is-in-form .ensures) ∙ e .before .before .if1 .taken) .few-jobs,
+      c .ready-flags .ensures,
+    )
 
 chain-lengths-requires : tie.Need-chain-lengths-requires
 chain-lengths-requires c κs = search needs

@@ -80,7 +80,7 @@ returns-2 c =
     let a = e .before .before .args in
     let asked = e .before .step-refusal .ensures in
     let judged : invalid .is-invalid .result ≡ isInvalid (snapshotOf (a .t1)) (a .j) =
-        invalid-is (a .t1) (a .j) (ready .is-ready .ensures) (invalid .is-invalid .ensures) in
+    invalid-is (a .t1) (a .j) (ready .is-ready .ensures) (invalid .is-invalid .ensures) in
     rw (
       own-tests (a .t1) (a .j) asked (e .if1 .left) _,
       ready-is (a .t1) (a .j),
@@ -111,7 +111,7 @@ returns-3 c =
     let a = e .before .before .args in
     let asked = e .before .step-refusal .ensures in
     let judged : invalid .is-invalid .result ≡ isInvalid (snapshotOf (a .t1)) (a .j) =
-        invalid-is (a .t1) (a .j) (ready .is-ready .ensures) (invalid .is-invalid .ensures) in
+    invalid-is (a .t1) (a .j) (ready .is-ready .ensures) (invalid .is-invalid .ensures) in
     rw (
       own-tests (a .t1) (a .j) asked (e .if1 .left) _,
       ready-is (a .t1) (a .j),
