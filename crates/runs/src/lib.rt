@@ -41,14 +41,15 @@ pub fn present_values(job: Job, cells: [i32; 64]) -> [i32; 4]
 }
 
 /// Whether the place is in use and the two values differ there.
-fn differs_at(job: Job, handed: [i32; 4], present: [i32; 4], place: usize) -> bool
+fn differs_at(job: Job, given: [i32; 4], present: [i32; 4], place: usize) -> bool
     requires { ⌜ place < 4 ⌝ }
-    ensures { λ r. ⌜ r ≡ (inUse job place && not (sameHeight (valueAt handed place) (valueAt present place))) ⌝ }
+    ensures { λ r. ⌜ r ≡ (inUse job place && not (sameHeight (valueAt given place) (valueAt present place))) ⌝ }
 {
-    if (job.arity as usize) <= place {
+    let count = job.arity as usize;
+    if count <= place {
         return false;
     }
-    handed[place] != present[place]
+    given[place] != present[place]
 }
 
 /// R43: whether a value handed, at a place in use, is not the height that its cell holds.
@@ -56,12 +57,12 @@ pub fn is_stale(job: Job, handed: [i32; 4], cells: [i32; 64]) -> bool
     ensures { λ r. ⌜ r ≡ isStale job (valueAt handed) (valueAt cells) ⌝ }
 {
     let present = present_values(job, cells);
-    let mut place: usize = 0;
-    while place < 4 {
-        if differs_at(job, handed, present, place) {
+    let mut i: usize = 0;
+    while i < 4 {
+        if differs_at(job, handed, present, i) {
             return true;
         }
-        place += 1;
+        i += 1;
     }
     false
 }

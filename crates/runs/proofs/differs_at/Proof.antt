@@ -1,18 +1,19 @@
 -- `differs_at` meets its contract.
-use mathlib.Core.Bool.{not}
+use mathlib.Core.Bool.{true, not}
 use mathlib.Core.Path.{_≡_, ap}
 use lib.Dec.{eqb}
 use borrow.Author.Tests.{le-leb, lt-leb}
 use mir.Syntax.{w32}
 use mir.Val.{ofZ}
 use Rattle.laws.specs.SameHeight.{sameHeight, same-words}
+use Rattle.dependence.specs.Job.{inUse}
 use Rattle.rules.specs.Values.{valueAt}
 use borrow.Author.Needs.{needs, sfits-of}
 use Rattle.runs.proofs.differs_at.Statement.{statement}
 use Rattle.runs.proofs.differs_at.Tie as tie
 
-cast-if1 : tie.Need-cast-if1
-cast-if1 c = search needs
+cast-count : tie.Need-cast-count
+cast-count c = search needs
 
 -- a place that is not in use
 returns : tie.Need-returns
@@ -35,16 +36,17 @@ returns-2 : tie.Need-returns-2
 returns-2 c =
     let used = c .before .before in
     let a = used .before .before .args in
+    let in-use : inUse (a .job) (a .place) ≡ true = ap not (lt-leb (a .job .arity) (a .place) (used .if1 .left)) in
     let compared : eqb (ofZ w32 (valueAt (a .t2) (a .place))) (ofZ w32 (valueAt (a .t3) (a .place)))
     ≡ sameHeight (valueAt (a .t2) (a .place)) (valueAt (a .t3) (a .place)) =
     same-words (sfits-of {w = w32} (c .before .result .given)) (sfits-of {w = w32} (c .result2 .given)) in
-    rw (lt-leb _ _ (used .if1 .left)) (ap not compared)
+    rw in-use (ap not compared)
 
 pub differs-at-spec : {M : Type 1} → statement M
 differs-at-spec =
     tie.close
     (tie.spec
-    cast-if1
+    cast-count
     returns
     mul-result
     array-copy-out-result

@@ -11,11 +11,11 @@ use Rattle.runs.proofs.is_stale.Tie as tie
 
 -- none of the places passed
 abbrev Inv-loop : tie.InvT-loop
-Inv-loop job handed present place₀ place = (place ≤ 4) × (anyBelow place (differsAt job handed present) ≡ false)
+Inv-loop job handed present i₀ i = (i ≤ 4) × (anyBelow i (differsAt job handed present) ≡ false)
 
 -- the places left
 abbrev μ-loop : tie.MeasureT-loop
-μ-loop job handed present place₀ place = 4 - place
+μ-loop job handed present i₀ i = 4 - i
 
 present-values-requires : tie.Need-present-values-requires Inv-loop μ-loop
 present-values-requires c κs = tt
@@ -37,8 +37,8 @@ returns c =
     (found _ _ _ (c .before .before .loop-test .taken) (c .before .differs-at .ensures) (c .if1 .taken))
 
 -- the place stays small
-add-place : tie.Need-add-place Inv-loop μ-loop
-add-place c = omega arith
+add-i : tie.Need-add-i Inv-loop μ-loop
+add-i c = omega arith
 
 -- a turn leaves fewer places
 loop-less : tie.Need-loop-less Inv-loop μ-loop
@@ -66,7 +66,7 @@ is-stale-spec =
     loop-holds
     differs-at-requires
     returns
-    add-place
+    add-i
     loop-less
     loop-again
     returns-2)
