@@ -215,9 +215,9 @@ impl Batch {
         let phase = self.phase[j];
         let ready = dependence::is_ready(jobs, committed, j);
         let job = jobs[j];
-        let old = self.runs[j];
+        let guess = self.runs[j];
         let cells = self.cells;
-        let invalid = is_invalid(ready, phase, job, old, cells);
+        let invalid = is_invalid(ready, phase, job, guess, cells);
         let refusal = start_own_refusal(how, running, phase, ready, invalid);
         if refusal != 0 {
             return Started {

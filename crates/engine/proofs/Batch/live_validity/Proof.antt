@@ -1,5 +1,10 @@
 -- `Batch::live_validity` meets its contract.
+use mathlib.Core.Bool.{true, false}
+use mathlib.Core.Path.{_≡_, sym, _∙_}
+use Rattle.rules.specs.Speculation.{isReady}
+use Rattle.engine.specs.Record.{snapshotOf}
 use Rattle.engine.specs.StepLaws.{ready-is}
+use Rattle.engine.specs.InvalidPass.{runStale}
 use borrow.Author.Needs.{needs}
 use Rattle.engine.proofs.Batch.live_validity.Statement.{statement}
 use Rattle.engine.proofs.Batch.live_validity.Tie as tie
@@ -29,13 +34,10 @@ returns c =
     let judged = stale .before .before .before .before .before in
     let ready = judged .before in
     let a = ready .before .before .before .args in
-    rw (
-      ready-is (a .t1) (a .j),
-      ← ready .is-ready .ensures,
-      judged .if1 .taken,
-      ← stale .is-stale .ensures,
-      c .if2 .taken,
-    )
+    let due : isReady (snapshotOf (a .t1)) (a .j) ≡ true =
+    ready-is (a .t1) (a .j) ∙ sym (ready .is-ready .ensures) ∙ judged .if1 .taken in
+    let compared : runStale (a .t1) (a .j) ≡ true = sym (stale .is-stale .ensures) ∙ c .if2 .taken in
+    rw (due, compared)
 
 -- it is valid
 returns-2 : tie.Need-returns-2
@@ -44,20 +46,19 @@ returns-2 c =
     let judged = stale .before .before .before .before .before in
     let ready = judged .before in
     let a = ready .before .before .before .args in
-    rw (
-      ready-is (a .t1) (a .j),
-      ← ready .is-ready .ensures,
-      judged .if1 .taken,
-      ← stale .is-stale .ensures,
-      c .if2 .left,
-    )
+    let due : isReady (snapshotOf (a .t1)) (a .j) ≡ true =
+    ready-is (a .t1) (a .j) ∙ sym (ready .is-ready .ensures) ∙ judged .if1 .taken in
+    let compared : runStale (a .t1) (a .j) ≡ false = sym (stale .is-stale .ensures) ∙ c .if2 .left in
+    rw (due, compared)
 
 -- its job is not ready
 returns-3 : tie.Need-returns-3
 returns-3 c =
     let ready = c .before in
     let a = ready .before .before .before .args in
-    rw (ready-is (a .t1) (a .j), ← ready .is-ready .ensures, c .if1 .left)
+    let early : isReady (snapshotOf (a .t1)) (a .j) ≡ false =
+    ready-is (a .t1) (a .j) ∙ sym (ready .is-ready .ensures) ∙ c .if1 .left in
+    rw early
 
 pub live-validity-spec : {M : Type 1} → statement M
 live-validity-spec =

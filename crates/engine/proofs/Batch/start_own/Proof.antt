@@ -56,14 +56,14 @@ array-copy-out-job c =
     let a = e .before .before .args in
     omega (arith, place-of (a .t1) (a .j) (e .before .step-refusal .ensures) (e .if1 .left))
 
-mul-old : tie.Need-mul-old
-mul-old c =
+mul-guess : tie.Need-mul-guess
+mul-guess c =
     let e = c .before .before .before .before .before .before in
     let a = e .before .before .args in
     omega (arith, place-of (a .t1) (a .j) (e .before .step-refusal .ensures) (e .if1 .left))
 
-element-copy-out-old : tie.Need-element-copy-out-old
-element-copy-out-old c =
+element-copy-out-guess : tie.Need-element-copy-out-guess
+element-copy-out-guess c =
     let e = c .before .before .before .before .before .before in
     let a = e .before .before .args in
     omega (arith, place-of (a .t1) (a .j) (e .before .step-refusal .ensures) (e .if1 .left))
@@ -175,8 +175,8 @@ start-own-spec =
     is-ready-requires
     mul-job
     array-copy-out-job
-    mul-old
-    element-copy-out-old
+    mul-guess
+    element-copy-out-guess
     is-invalid-requires
     start-own-refusal-requires
     returns-2

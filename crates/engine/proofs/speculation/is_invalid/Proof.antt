@@ -1,4 +1,8 @@
 -- `is_invalid` meets its contract.
+use mathlib.Core.Bool.{true}
+use mathlib.Core.Path.{_≡_, sym, _∙_}
+use Rattle.rules.specs.Values.{valueAt, isStale}
+use Rattle.rules.specs.Snapshot.{isLive}
 use borrow.Author.Needs.{needs}
 use Rattle.engine.proofs.speculation.is_invalid.Statement.{statement}
 use Rattle.engine.proofs.speculation.is_invalid.Tie as tie
@@ -13,12 +17,11 @@ is-stale-requires c κs = search needs
 returns : tie.Need-returns
 returns c =
     let live = c .before .before in
-    rw (
-      live .before .before .if1 .taken,
-      ← live .before .is-live .ensures,
-      live .if2 .taken,
-      c .is-stale .ensures,
-    )
+    let a = live .before .before .before .args in
+    let due : a .ready ≡ true = live .before .before .if1 .taken in
+    let pending : isLive (a .phase) ≡ true = sym (live .before .is-live .ensures) ∙ live .if2 .taken in
+    let compared : c .is-stale .result ≡ isStale (a .job) (valueAt (a .run .handed)) (valueAt (a .cells)) = c .is-stale .ensures in
+    rw (due, pending, compared)
 
 -- no run to judge
 returns-2 : tie.Need-returns-2
