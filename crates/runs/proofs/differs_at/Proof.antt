@@ -1,5 +1,5 @@
 -- `differs_at` meets its contract.
-use mathlib.Core.Bool.{true, not}
+use mathlib.Core.Bool.{true, false, not}
 use mathlib.Core.Path.{_≡_, ap}
 use lib.Dec.{eqb}
 use borrow.Author.Tests.{le-leb, lt-leb}
@@ -17,7 +17,10 @@ cast-count c = search needs
 
 -- a place that is not in use
 returns : tie.Need-returns
-returns c = rw (le-leb _ _ (c .if1 .taken))
+returns c =
+    let a = c .before .before .args in
+    let unused : inUse (a .job) (a .place) ≡ false = ap not (le-leb (a .job .arity) (a .place) (c .if1 .taken)) in
+    rw unused
 
 mul-result : tie.Need-mul-result
 mul-result c = search needs

@@ -34,7 +34,7 @@ returns c =
     let s = c .before .before .before .before in
     let a = s .before .args in
     rw (← present-stale (a .job) (a .handed) (a .cells), ← s .present-values .ensures)
-    (found _ _ _ (c .before .before .loop-test .taken) (c .before .differs-at .ensures) (c .if1 .taken))
+    (found 4 _ _ (omega arith) (c .before .differs-at .ensures) (c .if1 .taken))
 
 -- the place stays small
 add-i : tie.Need-add-i Inv-loop μ-loop
