@@ -19,6 +19,16 @@ Inv-loop self readies jobs runs phases cells invalid₀ j₀ invalid j =
 abbrev μ-loop : tie.MeasureT-loop
 μ-loop self readies jobs runs phases cells invalid₀ j₀ invalid j = self .«job_count» - j
 
+-- the turn of job j
+loop-again : tie.Need-loop-again Inv-loop μ-loop
+loop-again c =
+    let l = c .before .before .before .before .before .loop in
+    let s = c .before .before .before .before .before .before .before .before .before .before in (
+      omega arith,
+      l .inv .1,
+      invalid-step (s .args .self) (l .j) (omega arith) (l .inv .1) (s .pre .1) (l .inv .2) (c .is-invalid .ensures),
+    )
+
 loop-holds : tie.Need-loop-holds Inv-loop μ-loop
 loop-holds c = (omega arith, c .before .before .before .before .pre .0, column-none _ _ _)
 
@@ -54,15 +64,6 @@ add-j c = omega arith
 
 loop-less : tie.Need-loop-less Inv-loop μ-loop
 loop-less c = omega arith
-
-loop-again : tie.Need-loop-again Inv-loop μ-loop
-loop-again c =
-    let l = c .before .before .before .before .before .loop in
-    let s = c .before .before .before .before .before .before .before .before .before .before in (
-      omega arith,
-      l .inv .1,
-      invalid-step (s .args .self) (l .j) (omega arith) (l .inv .1) (s .pre .1) (l .inv .2) (c .is-invalid .ensures),
-    )
 
 -- all are
 returns : tie.Need-returns Inv-loop μ-loop

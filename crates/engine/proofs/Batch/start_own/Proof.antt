@@ -23,6 +23,56 @@ returns c =
     let e = ne-eqb _ _ (c .if1 .taken) in
     rw (refused-early (a .t1) (a .j) (c .before .step-refusal .ensures) _ e, e)
 
+-- refused by its own tests
+returns-2 : tie.Need-returns-2
+unfolding startedOwn
+returns-2 c =
+    let r = c .before in
+    let invalid = r .before in
+    let ready = invalid .before .before .before .before in
+    let e = ready .before .before .before .before .before in
+    let a = e .before .before .args in
+    let asked = e .before .step-refusal .ensures in
+    let judged : invalid .is-invalid .result ≡ isInvalid (snapshotOf (a .t1)) (a .j) =
+    invalid-is (a .t1) (a .j) (ready .is-ready .ensures) (invalid .is-invalid .ensures) in
+    rw (
+      own-tests (a .t1) (a .j) asked (e .if1 .left) _,
+      judged-else (snapshotOf (a .t1)) (a .j),
+      ready-is (a .t1) (a .j),
+      ← ready .is-ready .ensures,
+      ← judged,
+      ← r .start-own-refusal .ensures,
+      ne-eqb _ _ (c .if2 .taken),
+    )
+
+-- accepted
+returns-3 : tie.Need-returns-3
+unfolding startedOwn withJobChanged
+returns-3 c =
+    let run = c .before in
+    let values = run .before in
+    let t = values .before in
+    let r = t .before in
+    let invalid = r .before in
+    let ready = invalid .before .before .before .before in
+    let e = ready .before .before .before .before .before in
+    let a = e .before .before .args in
+    let asked = e .before .step-refusal .ensures in
+    let judged : invalid .is-invalid .result ≡ isInvalid (snapshotOf (a .t1)) (a .j) =
+    invalid-is (a .t1) (a .j) (ready .is-ready .ensures) (invalid .is-invalid .ensures) in
+    rw (
+      own-tests (a .t1) (a .j) asked (e .if1 .left) _,
+      judged-else (snapshotOf (a .t1)) (a .j),
+      ready-is (a .t1) (a .j),
+      ← ready .is-ready .ensures,
+      ← judged,
+      ← r .start-own-refusal .ensures,
+      t .if2 .left,
+      c .discarded-phase .ensures,
+      run .new-run .ensures,
+      values .present-values .ensures,
+    )
+
 array-read-how : tie.Need-array-read-how
 array-read-how c =
     let e = c .before .before in
@@ -74,28 +124,6 @@ is-invalid-requires c κs = search needs
 start-own-refusal-requires : tie.Need-start-own-refusal-requires
 start-own-refusal-requires c κs = search needs
 
--- refused by its own tests
-returns-2 : tie.Need-returns-2
-unfolding startedOwn
-returns-2 c =
-    let r = c .before in
-    let invalid = r .before in
-    let ready = invalid .before .before .before .before in
-    let e = ready .before .before .before .before .before in
-    let a = e .before .before .args in
-    let asked = e .before .step-refusal .ensures in
-    let judged : invalid .is-invalid .result ≡ isInvalid (snapshotOf (a .t1)) (a .j) =
-    invalid-is (a .t1) (a .j) (ready .is-ready .ensures) (invalid .is-invalid .ensures) in
-    rw (
-      own-tests (a .t1) (a .j) asked (e .if1 .left) _,
-      judged-else (snapshotOf (a .t1)) (a .j),
-      ready-is (a .t1) (a .j),
-      ← ready .is-ready .ensures,
-      ← judged,
-      ← r .start-own-refusal .ensures,
-      ne-eqb _ _ (c .if2 .taken),
-    )
-
 present-values-requires : tie.Need-present-values-requires
 present-values-requires c κs = search needs
 
@@ -134,34 +162,6 @@ element-write-self-3 c =
     let e = c .before .before .before .before .before .before .before .before .before .before .before .before .before .before in
     let a = e .before .before .args in
     omega (arith, place-of (a .t1) (a .j) (e .before .step-refusal .ensures) (e .if1 .left))
-
--- accepted
-returns-3 : tie.Need-returns-3
-unfolding startedOwn withJobChanged
-returns-3 c =
-    let run = c .before in
-    let values = run .before in
-    let t = values .before in
-    let r = t .before in
-    let invalid = r .before in
-    let ready = invalid .before .before .before .before in
-    let e = ready .before .before .before .before .before in
-    let a = e .before .before .args in
-    let asked = e .before .step-refusal .ensures in
-    let judged : invalid .is-invalid .result ≡ isInvalid (snapshotOf (a .t1)) (a .j) =
-    invalid-is (a .t1) (a .j) (ready .is-ready .ensures) (invalid .is-invalid .ensures) in
-    rw (
-      own-tests (a .t1) (a .j) asked (e .if1 .left) _,
-      judged-else (snapshotOf (a .t1)) (a .j),
-      ready-is (a .t1) (a .j),
-      ← ready .is-ready .ensures,
-      ← judged,
-      ← r .start-own-refusal .ensures,
-      t .if2 .left,
-      c .discarded-phase .ensures,
-      run .new-run .ensures,
-      values .present-values .ensures,
-    )
 
 pub start-own-spec : {M : Type 1} → statement M
 start-own-spec =
