@@ -119,7 +119,7 @@ returns-3 c =
       ← judged,
       ← r .commit-refusal .ensures,
       t .if2 .left,
-      c .write-back .ensures,
+      ← c .write-back .ensures,
       set-getD (a .t1 .runs) (a .j) noRun,
       set-getD (a .t1 .running) (a .j) 0,
       stored-stays (getD (a .t1 .committed) (a .j) 0) (a .t1 .phase) (a .j) _ (sym (r .commit-refusal .ensures) ∙ t .if2 .left),

@@ -68,7 +68,7 @@ returns-3 c =
       ← judged,
       ← r .start-own-refusal .ensures,
       t .if2 .left,
-      c .discarded-phase .ensures,
+      ← c .discarded-phase .ensures,
       run .new-run .ensures,
       values .present-values .ensures,
     )
