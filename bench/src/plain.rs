@@ -69,8 +69,10 @@ pub struct Plain {
     waits_for: [JobSet; MOST_JOBS],
     chain_lengths: [u8; MOST_JOBS],
 
-    // A job's speculative run; its values are those handed out until a report
-    // is stored in their place.
+    // A job's speculative run: what it was handed, and the same with what its
+    // report writes in place. Nothing reads where the values came from but the
+    // check of the record.
+    handed: [[i32; 4]; MOST_JOBS],
     speculated: [[i32; 4]; MOST_JOBS],
     bypassed: [JobSet; MOST_JOBS],
     sources: [JobSet; MOST_JOBS],
@@ -81,7 +83,6 @@ pub struct Plain {
     speculation_out: JobSet,
     speculation_stored: JobSet,
     speculation_wrote: JobSet,
-    invalid: JobSet,
     committed: JobSet,
     committed_by_speculation: JobSet,
     wrote: JobSet,
@@ -141,6 +142,7 @@ impl Plain {
             uses: [CellUse::default(); MOST_CELLS],
             waits_for: [0; MOST_JOBS],
             chain_lengths: [0; MOST_JOBS],
+            handed: [[0; 4]; MOST_JOBS],
             speculated: [[0; 4]; MOST_JOBS],
             bypassed: [0; MOST_JOBS],
             sources: [0; MOST_JOBS],
@@ -149,7 +151,6 @@ impl Plain {
             speculation_out: 0,
             speculation_stored: 0,
             speculation_wrote: 0,
-            invalid: 0,
             committed: 0,
             committed_by_speculation: 0,
             wrote: 0,
@@ -235,9 +236,11 @@ impl Plain {
         self.waits_for[job] & !self.committed == 0
     }
 
-    /// Jobs whose speculative run is out or stored, and is not invalid.
-    fn valid(&self) -> JobSet {
-        (self.speculation_out | self.speculation_stored) & !self.invalid
+    /// R43, of a ready job: its speculative run is out or stored, and was handed
+    /// the present values.
+    fn is_valid(&self, job: usize) -> bool {
+        has(self.speculation_out | self.speculation_stored, job)
+            && self.handed[job] == self.present_values(job)
     }
 
     fn present_values(&self, job: usize) -> [i32; 4] {
@@ -257,12 +260,11 @@ impl Plain {
         }
     }
 
-    /// Whether each writer that the job would meet has a stored and valid report.
+    /// Whether each writer that the job would meet has a stored report.
     fn can_speculate(&self, job: usize) -> bool {
-        let usable = self.speculation_stored & !self.invalid;
         self.jobs[job].used().iter().all(|access| {
             let writer = self.nearest_writer(job, access.cell);
-            writer.map_or(true, |writer| has(usable, writer))
+            writer.map_or(true, |writer| has(self.speculation_stored, writer))
         })
     }
 
@@ -305,17 +307,6 @@ impl Plain {
         self.committed |= only(job);
         if wrote {
             self.wrote |= only(job);
-            self.invalidate_after(job);
-        }
-    }
-
-    /// The one place where speculative runs become invalid: an uncertain writer
-    /// has written. Sources are earlier jobs, so one pass upwards finds all.
-    fn invalidate_after(&mut self, writer: usize) {
-        for job in members(self.valid() & !below(writer)) {
-            if has(self.bypassed[job], writer) || self.sources[job] & self.invalid != 0 {
-                self.invalid |= only(job);
-            }
         }
     }
 }
@@ -349,7 +340,7 @@ impl Plain {
         if !self.is_ready(job) {
             return Err(15);
         }
-        if has(self.valid(), job) {
+        if self.is_valid(job) {
             return Err(17);
         }
         // An invalid speculative run is discarded.
@@ -377,6 +368,7 @@ impl Plain {
             return Err(15);
         }
         let speculation = self.speculate(job);
+        self.handed[job] = speculation.handed;
         self.speculated[job] = speculation.handed;
         self.bypassed[job] = speculation.bypassed;
         self.sources[job] = speculation.sources;
@@ -429,10 +421,9 @@ impl Plain {
         if !self.is_ready(job) {
             return Err(15);
         }
-        if has(self.invalid, job) {
+        if !self.is_valid(job) {
             return Err(18);
         }
-        // Later runs may still have this one as their source; it stays valid.
         self.speculation_stored &= !only(job);
         self.committed_by_speculation |= only(job);
         let wrote = has(self.speculation_wrote, job);
@@ -465,12 +456,15 @@ impl Plain {
         };
         let idle = all & !self.committed & !self.own_out;
         let mut ready = 0;
+        let mut valid = 0;
         for job in members(idle) {
             if self.is_ready(job) {
                 ready |= only(job);
+                if self.is_valid(job) {
+                    valid |= only(job);
+                }
             }
         }
-        let valid = self.valid();
         let commits = members(ready & valid & self.speculation_stored);
         if let Some((job, length)) = self.longest(commits) {
             return Ok((engine::COMMIT, job, length));
@@ -609,7 +603,7 @@ mod tests {
         }
         assert_eq!(batch.speculated[2][0], 1439);
         assert_eq!(batch.report_own(0, [1400, 0, 0, 0], 1), Ok(()));
-        assert_eq!(batch.invalid, 0b110);
+        assert!(!batch.is_valid(1));
         assert_eq!((batch.commit(1), batch.commit(2)), (Err(18), Err(15)));
         assert_eq!(batch.start_own(2), Err(15));
         assert_eq!(batch.start_own(1), Ok([1400, 0, 0, 0]));

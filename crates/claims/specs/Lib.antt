@@ -11,3 +11,4 @@ pub mod Chooser
 pub mod Tallies
 pub mod Bypassed
 pub mod FormerRule
+pub mod Judged

@@ -16,8 +16,7 @@ use Rattle.rules.specs.Snapshot.{isDiscarded, isLive}
 use Rattle.rules.specs.Speculation.{handedStale, isValid, validity}
 use Rattle.rules.specs.SpeculationLaws.{stands-told}
 use Rattle.engine.specs.declared.Batch.{Batch}
-use Rattle.engine.specs.declared.JobAnswer.{JobAnswer}
-use Rattle.engine.specs.Ask.{shownJob, askedJob}
+use Rattle.engine.specs.Ask.{askedJob}
 use Rattle.model.specs.State.{Origin, discarded, originOf, State, Open}
 use Rattle.model.specs.InvariantLaws.{present-is-before}
 use Rattle.model.specs.FormerRule.{Lost, bypassed-wrote, source-discarded, sourced-is-right}
@@ -28,8 +27,7 @@ use Rattle.claims.specs.FormerRule.{sourceLost, fellBelow, fellFormerly, StoodF
 use Rattle.theorem.specs.Faithful.{Faithful, bypassed-earlier}
 use Rattle.theorem.specs.View.{originFor, speculationOf, stateOf, progress-committed, progress-marked}
 use Rattle.theorem.specs.View.{NumberAt, source-place}
-use Rattle.theorem.specs.Promises.{exact-validity}
-use Rattle.theorem.specs.AsAsked.{asked-job}
+use Rattle.theorem.specs.AsAsked.{asked-validity}
 use Rattle.theorem.specs.RulesSay.{ready-says}
 use Rattle.theorem.specs.MatchSays.{matches-fresh}
 use Rattle.theorem.specs.Right.{Sound, sound-replayed}
@@ -128,10 +126,8 @@ module _ {b : Batch} {l : Ledger} (sound : Sound b l) (j : ℕ) (stood : StoodFo
   still = rw (stood .ready, stood .live, fresh)
 
   told-still : askedJob b j .validity ≡ 2
-  unfolding shownJob
   told-still =
-      ap (λ (a : JobAnswer). a .validity) (asked-job (sound .agree) j (stood .held))
-      ∙ exact-validity (sound .agree) (sound-replayed sound) j (stood .held)
+      asked-validity (sound .agree) (sound-replayed sound) j (stood .held)
       ∙ eqb-true (validity (snapshotOfLedger l) j) 2 (stands-told (snapshotOfLedger l) j ∙ rw (stood .unsettled, still))
 
 pub stands-still : StandsStillStatement

@@ -32,3 +32,5 @@ pub mod Chooser
 pub mod Tallies
 pub mod Bypassed
 pub mod FormerRule
+pub mod Later
+pub mod Judged
