@@ -1,4 +1,4 @@
--- The code's test for an invalid speculative run is the rule's, asked of one job and in a pass over all of them.
+-- R43 to R45 as the code judges them are the rules', of one job and in a pass over all of them.
 use Prim.Native.Nat.{ℕ, _+_, _<_, _≤_}
 use native.Mathlib.Omega.{arith}
 use mathlib.Core.Bool.{Bool, true, false, cond, not, _&&_}
@@ -23,12 +23,12 @@ module _ (b : Batch) (j : ℕ) where
   abbrev pub runStale : Bool
   runStale = isStale (jobAt (b .jobs) j) (valueAt (runAt b j .handed)) (valueAt (b .cells))
 
-  -- The same where it is the guess's.
+  -- The same as the snapshot gives it, where the run is the guess's only while that is live.
   abbrev guessStale : Bool → Bool
   guessStale live =
       isStale (jobAt (b .jobs) j) (λ place. cond live (valueAt (runAt b j .handed) place) (pos 0)) (valueAt (b .cells))
 
-  -- Whose it is makes no difference: only a guess is judged.
+  -- R44. Whose the run is makes no difference, since only a live guess is judged.
   pub invalid-is : {readyNow told : Bool} → readyNow ≡ ready (b .jobs) (b .committed) j
       → told ≡ invalidRun readyNow (getD (b .phase) j 0) (jobAt (b .jobs) j) (runAt b j) (b .cells)
       → told ≡ isInvalid (snapshotOf b) j
@@ -40,6 +40,7 @@ module _ (b : Batch) (j : ℕ) where
       cases true false = refl
       cases false live = refl
 
+  -- R45.
   pub validity-is : judgedAs (isLive (getD (b .phase) j 0) && not (committedAt b j)) (isReady (snapshotOf b) j) runStale
       ≡ validity (snapshotOf b) j
   unfolding validity
