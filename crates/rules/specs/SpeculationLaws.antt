@@ -7,7 +7,7 @@ use lib.Dec.{eqb}
 use lib.IntN.{ℤ}
 use borrow.Author.Tests.{not-false}
 use Rattle.laws.specs.SearchLaws.{any-fails, any-absent, if-or}
-use Rattle.laws.specs.SameHeight.{same-is, is-same}
+use Rattle.laws.specs.SameHeightLaws.{same-is, is-same}
 use Rattle.dependence.specs.declared.Job.{Job}
 use Rattle.dependence.specs.Job.{inUse, accessAt}
 use Rattle.rules.specs.Values.{staleAt, isStale}

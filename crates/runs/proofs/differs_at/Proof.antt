@@ -5,7 +5,8 @@ use lib.Dec.{eqb}
 use borrow.Author.Tests.{le-leb, lt-leb}
 use mir.Syntax.{w32}
 use mir.Val.{ofZ}
-use Rattle.laws.specs.SameHeight.{sameHeight, same-words}
+use Rattle.laws.specs.SameHeight.{sameHeight}
+use Rattle.laws.specs.SameHeightLaws.{same-words}
 use Rattle.dependence.specs.Job.{inUse}
 use Rattle.rules.specs.Values.{valueAt}
 use borrow.Author.Needs.{needs, sfits-of}
