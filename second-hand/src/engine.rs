@@ -9,6 +9,7 @@
 
 use std::collections::BTreeSet;
 
+use crate::former;
 use crate::kinds;
 use crate::sets::{GuessTold, Told};
 use crate::tally::Tally;
@@ -89,6 +90,16 @@ pub enum Settled {
     ByGuess { mark: u32 },
 }
 
+impl Settled {
+    /// R57: the mark of the counted report, 0 while there is none.
+    pub fn mark(&self) -> u32 {
+        match *self {
+            Settled::No => 0,
+            Settled::ByOwnRun { mark } | Settled::ByGuess { mark } => mark,
+        }
+    }
+}
+
 #[derive(Clone, Debug, PartialEq, Eq)]
 struct Entry {
     job: Job,
@@ -104,6 +115,8 @@ pub struct Batch {
     jobs: Vec<Entry>,
     /// None before sealing, then whether guessing is on.
     sealed: Option<bool>,
+    /// Guesses fall by the former rule (`former`), not by R43 and R44. For figures only.
+    pub(crate) by_former_rule: bool,
 }
 
 /// R62: what the chooser names.
@@ -126,7 +139,7 @@ impl Job {
         None
     }
 
-    fn has_maybe_write(&self) -> bool {
+    pub(crate) fn has_maybe_write(&self) -> bool {
         self.accesses.iter().any(|access| access.mode == MAYBE)
     }
 
@@ -154,7 +167,12 @@ impl Batch {
         if heights.is_empty() || heights.len() > MOST_CELLS {
             return Err(1);
         }
-        Ok(Batch { cells: heights.to_vec(), jobs: Vec::new(), sealed: None })
+        Ok(Batch {
+            cells: heights.to_vec(),
+            jobs: Vec::new(),
+            sealed: None,
+            by_former_rule: false,
+        })
     }
 
     /// R6: adds the job as the last, before sealing or after it. It is later than
@@ -224,14 +242,6 @@ impl Batch {
         self.jobs[job].settled != Settled::No
     }
 
-    /// R57: the mark of the counted report, 0 while there is none.
-    fn mark(&self, job: usize) -> u32 {
-        match self.jobs[job].settled {
-            Settled::No => 0,
-            Settled::ByOwnRun { mark } | Settled::ByGuess { mark } => mark,
-        }
-    }
-
     /// R21: every earlier job in conflict with it is settled.
     fn is_ready(&self, job: usize) -> bool {
         (0..job).all(|earlier| {
@@ -239,76 +249,50 @@ impl Batch {
         })
     }
 
-    /// R43: of every job whether its guess has fallen: one that it looked past is
-    /// settled with mark 1, or a guess that it took from has fallen or is thrown
-    /// away. (Of a guess thrown away nobody asks.)
-    ///
-    /// A guess takes only from earlier jobs, so going up through the jobs each
-    /// answer is known before it is needed.
-    fn fallen(&self) -> Vec<bool> {
-        let mut fallen = Vec::new();
-        for entry in &self.jobs {
-            let has_fallen = match &entry.guess {
-                None => false,
-                Some(guess) => {
-                    let past = guess.looked_past.iter().any(|&k| self.mark(k) == 1);
-                    let source = guess
-                        .taken_from
-                        .iter()
-                        .any(|&k| fallen[k] || self.is_thrown_away(k));
-                    past || source
-                }
-            };
-            fallen.push(has_fallen);
-        }
-        fallen
+    /// Whether the job has a guess to judge: out or stored, and the job is not settled
+    /// (R45). One by which it is settled has a state of its own here.
+    fn has_live_guess(&self, job: usize) -> bool {
+        let state = self.guess_state(job);
+        matches!(state, Some(GuessState::Out | GuessState::Stored(_)))
     }
 
-    fn has_fallen(&self, job: usize) -> bool {
-        self.fallen()[job]
+    /// R43: each value that the job's guess was handed is the height that the cell
+    /// holds now. Places not in use are 0 in both (R30).
+    fn was_handed_present(&self, job: usize) -> bool {
+        self.guess_handed(job as u32) == Some(self.present_values(job))
     }
 
-    fn is_thrown_away(&self, job: usize) -> bool {
-        match &self.jobs[job].guess {
-            Some(guess) => guess.state == GuessState::ThrownAway,
-            None => false,
-        }
-    }
-
-    /// R44: the job is ready and its guess, out or stored, has not fallen.
+    /// R43
     fn guess_stands(&self, job: usize) -> bool {
-        self.jobs[job].guess.is_some()
-            && !self.is_thrown_away(job)
-            && self.is_ready(job)
-            && !self.has_fallen(job)
+        let sound = match self.by_former_rule {
+            false => self.was_handed_present(job),
+            true => !former::has_fallen(self, job),
+        };
+        self.has_live_guess(job) && self.is_ready(job) && sound
     }
 
-    /// R45: 0 there is no guess to judge, 1 it is not yet to be judged, 2 it
-    /// stands, 3 it has fallen. R55: one by which its job is settled stays stored,
-    /// and so is judged like any other.
+    /// R45: 0 there is no guess to judge, 1 it is not yet to be judged, 2 it stands
+    /// (R43), 3 it has fallen (R44).
     fn judged(&self, job: usize) -> u32 {
-        if self.jobs[job].guess.is_none() || self.is_thrown_away(job) {
+        if !self.has_live_guess(job) {
             0
-        } else if self.has_fallen(job) {
-            3
-        } else if self.is_ready(job) {
+        } else if !self.is_ready(job) {
+            1
+        } else if self.guess_stands(job) {
             2
         } else {
-            1
+            3
         }
+    }
+
+    fn guess_state(&self, job: usize) -> Option<GuessState> {
+        self.jobs[job].guess.as_ref().map(|guess| guess.state)
     }
 
     fn stored_report(&self, job: usize) -> Option<Report> {
-        match &self.jobs[job].guess {
-            Some(Guess { state: GuessState::Stored(report), .. }) => Some(*report),
+        match self.guess_state(job) {
+            Some(GuessState::Stored(report)) => Some(report),
             _ => None,
-        }
-    }
-
-    fn guess_is_out(&self, job: usize) -> bool {
-        match &self.jobs[job].guess {
-            Some(guess) => guess.state == GuessState::Out,
-            None => false,
         }
     }
 
@@ -327,13 +311,12 @@ impl Batch {
     }
 
     /// The guess that would start for this job now, or none where a job that it
-    /// would take from has no stored guess or a fallen one (R115).
+    /// would take from has no stored guess (R115).
     ///
     /// R41: for each access, back through the unsettled jobs. Maybe-writers of
     /// the cell are looked past; the first writer ends it, and what its guess has
     /// stored is taken. Without a writer the present value stays.
     fn new_guess(&self, job: usize) -> Option<Guess> {
-        let fallen = self.fallen();
         let mut handed = self.present_values(job);
         let mut looked_past = BTreeSet::new();
         let mut taken_from = BTreeSet::new();
@@ -347,8 +330,9 @@ impl Batch {
                         looked_past.insert(earlier);
                     }
                     Some((there, WRITE)) => {
+                        // Of a fallen guess too, but by the former rule.
                         let report = self.stored_report(earlier)?;
-                        if fallen[earlier] {
+                        if self.by_former_rule && former::has_fallen(self, earlier) {
                             return None;
                         }
                         handed[place] = report.values[there];
@@ -443,7 +427,7 @@ impl Batch {
         if self.is_ready(job) {
             return Err(14);
         }
-        // R115: a job to take from has no stored guess, or a fallen one.
+        // R115: a job to take from has no stored guess.
         self.new_guess(job).ok_or(15)
     }
 
@@ -461,7 +445,7 @@ impl Batch {
         self.check_any_step(number)?;
         let job = number as usize;
         // R113: the guess is not out; one thrown away is not.
-        if !self.guess_is_out(job) {
+        if self.guess_state(job) != Some(GuessState::Out) {
             return Err(13);
         }
         self.check_mark(job, mark)
@@ -479,8 +463,8 @@ impl Batch {
         if !self.is_ready(job) {
             return Err(15);
         }
-        // R118: the guess has fallen.
-        if self.has_fallen(job) {
+        // R118: the guess has fallen, as it does not stand (R44).
+        if !self.guess_stands(job) {
             return Err(18);
         }
         Ok(report)
@@ -663,15 +647,14 @@ impl Batch {
     /// R75: each number counted over the jobs by itself.
     pub fn tally(&self) -> Tally {
         let mut tally = Tally::default();
-        for entry in &self.jobs {
-            let state = entry.guess.as_ref().map(|guess| guess.state);
+        for (job, entry) in self.jobs.iter().enumerate() {
+            let state = self.guess_state(job);
             let kept = matches!(entry.settled, Settled::ByGuess { .. });
-            let live = matches!(state, Some(GuessState::Out | GuessState::Stored(_)));
             tally.jobs += 1;
             tally.started += u32::from(state.is_some());
             tally.kept += u32::from(kept);
             tally.thrown_away += u32::from(state == Some(GuessState::ThrownAway));
-            tally.rest += u32::from(live && entry.settled == Settled::No);
+            tally.rest += u32::from(self.has_live_guess(job) && entry.settled == Settled::No);
         }
         tally
     }
@@ -695,11 +678,6 @@ impl Batch {
     /// A job's guess, if one was ever started.
     pub fn guess(&self, job: u32) -> Option<&Guess> {
         self.jobs.get(job as usize)?.guess.as_ref()
-    }
-
-    /// Whether a job has a guess, and it has fallen.
-    pub fn guess_has_fallen(&self, job: u32) -> bool {
-        self.guess(job).is_some() && self.has_fallen(job as usize)
     }
 
     /// The values handed to a job's own run while that run is out.

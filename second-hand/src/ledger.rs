@@ -145,6 +145,25 @@ impl Ledger {
         before.all(|line| line.counted.is_some() || !conflicts(line))
     }
 
+    /// R45 of every job. What the cells hold now is known here only as what the
+    /// insertion-order run of the counted reports leaves in them (R165, R173).
+    pub fn judged(&self) -> Vec<u8> {
+        let (_, cells) = self.run();
+        let judged = |(number, line): (usize, &Line)| match &line.guess {
+            Some(guess) if line.counted.is_none() => {
+                let mut handed = line.job.used().iter().zip(guess.handed);
+                let right = handed.all(|(&(cell, _), value)| cells[usize::from(cell)] == value);
+                match (self.is_ready(number), right) {
+                    (false, _) => 1,
+                    (true, true) => 2,
+                    (true, false) => 3,
+                }
+            }
+            _ => 0,
+        };
+        self.jobs.iter().enumerate().map(judged).collect()
+    }
+
     /// R164: whether every job has a counted report.
     pub fn all_settled(&self) -> bool {
         self.jobs.iter().all(|line| line.counted.is_some())

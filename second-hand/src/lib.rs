@@ -3,7 +3,9 @@
 //! the rules (docs/RULES.md) stand where they are carried out.
 
 pub mod engine;
+pub mod former;
 pub mod frame;
+pub mod judging;
 pub mod kinds;
 pub mod ledger;
 pub mod lists;

@@ -1,9 +1,10 @@
 //! Random lists of calls on one batch (R160), most of them accepted, in which jobs
 //! come in before the seal and after it, and some guesses are kept, some thrown
-//! away, and some still out or stored wherever one stops. They follow from the
+//! away, and some still out or stored wherever one stops. Many reports give the
+//! height that was there, or one that was there before. The lists follow from the
 //! dice, and from how the record stands before each call.
 
-use crate::engine::{Access, Batch, Report};
+use crate::engine::{self, Access, Batch, Report};
 use crate::kinds;
 use crate::plans::Dice;
 use crate::record::{Job, Record};
@@ -109,6 +110,9 @@ pub struct Manner {
     /// Each report follows one rule of what its run was handed (R176); else it is
     /// any.
     by_rule: bool,
+    /// The heights that reports choose from, where they are any; all if there are
+    /// none here.
+    pool: Vec<i32>,
     // How often in a hundred:
     /// A call on a sealed, unfinished batch inserts, while there are jobs to come.
     pace: usize,
@@ -118,6 +122,10 @@ pub struct Manner {
     eager: usize,
     /// A job that may write reports that it has, where its report is any.
     writes: usize,
+    /// Of a cell the height that was handed is reported, where the report is any.
+    same: usize,
+    /// A step starts a guess that takes from a fallen one, if that can be.
+    behind: usize,
 }
 
 impl Manner {
@@ -135,16 +143,43 @@ impl Manner {
             1 => dice.below(jobs + 1),
             _ => jobs,
         };
+        let pool = some_pool(dice);
         Manner {
-            heights: (0..cells).map(|_| height(dice)).collect(),
+            heights: (0..cells).map(|_| height_of(dice, &pool)).collect(),
             jobs: (0..jobs).map(|_| sound_job(dice, cells)).collect(),
             early: early.min(FULL),
             guessing: u8::from(dice.percent(92)),
             by_rule: false,
+            pool,
             pace: dice.pick(&[0, 10, 20, 40]),
             wild: dice.pick(&[0, 5, 20]),
             eager: dice.pick(&[20, 50, 80]),
-            writes: dice.pick(&[0, 10, 40]),
+            writes: dice.pick(&[0, 10, 40, 80]),
+            same: dice.pick(&[0, 40, 80]),
+            behind: 0,
+        }
+    }
+
+    /// Few cells and few heights, and reports that mostly write: so a guess is often
+    /// handed what is there, or one wrong height among right ones, though jobs that it
+    /// looked past have written and those that it took from have run again.
+    pub fn few_heights(dice: &mut Dice) -> Manner {
+        let cells = dice.pick(&[1, 1, 2, 2, 3, 4, 4, 5]);
+        let jobs = 3 + dice.below(9);
+        let pool = twins(dice);
+        Manner {
+            heights: (0..cells).map(|_| height_of(dice, &pool)).collect(),
+            jobs: (0..jobs).map(|_| outside_job(dice, cells)).collect(),
+            early: dice.pick(&[jobs, jobs / 2, 0]),
+            guessing: 1,
+            by_rule: false,
+            pool,
+            pace: dice.pick(&[10, 40]),
+            wild: dice.pick(&[0, 3]),
+            eager: dice.pick(&[40, 60, 80]),
+            writes: dice.pick(&[30, 60, 90]),
+            same: dice.pick(&[0, 0, 30, 60, 90]),
+            behind: dice.pick(&[0, 50]),
         }
     }
 
@@ -168,10 +203,13 @@ impl Manner {
             early: dice.pick(&[0, many / 2, many]),
             guessing: 1,
             by_rule: false,
+            pool: Vec::new(),
             pace: dice.pick(&[10, 40]),
             wild: dice.pick(&[0, 2]),
             eager: dice.pick(&[40, 60, 80]),
             writes: dice.pick(&[0, 2, 10]),
+            same: dice.pick(&[0, 40, 80]),
+            behind: 0,
         }
     }
 
@@ -197,6 +235,17 @@ impl Manner {
             ..other
         };
         [first, second]
+    }
+
+    /// A batch of `engine` with the same cells and jobs, as many as it holds, sealed with
+    /// guessing on.
+    pub fn batch(&self) -> Batch {
+        let mut batch = Batch::open(&self.heights).unwrap();
+        for &job in self.jobs.iter().take(FULL) {
+            Call::Insert(job).on_batch(&mut batch);
+        }
+        Call::Seal(1).on_batch(&mut batch);
+        batch
     }
 
     /// About as many calls as settle every job.
@@ -251,6 +300,11 @@ impl Manner {
     /// A step on a job in the state for it, if there is one; of starts and settling
     /// half of the time the one that the chooser names.
     fn fitting_step(&self, dice: &mut Dice, record: &Record) -> Call {
+        if dice.percent(self.behind) {
+            if let Some(start) = start_behind_fallen(record) {
+                return start;
+            }
+        }
         let mut number = if dice.percent(self.eager) {
             dice.pick(&[1, 3])
         } else {
@@ -280,12 +334,20 @@ impl Manner {
     /// What is reported of the run that the job holds.
     fn report(&self, dice: &mut Dice, record: &Record, job: usize) -> Report {
         let held = job < usize::from(record.job_count);
+        let handed = if held {
+            record.runs[job].handed
+        } else {
+            NOTHING
+        };
         if self.by_rule && held {
-            return reported(&record.jobs[job], record.runs[job].handed);
+            return reported(&plain(&record.jobs[job]), handed);
         }
         let may_write = held && record.jobs[job].has_maybe_write();
         Report {
-            values: [0; 4].map(|_: i32| height(dice)),
+            values: handed.map(|value| match dice.percent(self.same) {
+                true => value,
+                false => height_of(dice, &self.pool),
+            }),
             mark: u32::from(may_write && dice.percent(self.writes)),
         }
     }
@@ -315,13 +377,32 @@ pub fn sound_job(dice: &mut Dice, cells: usize) -> Job {
     let kind = dice.pick(&[0, 0, 0, 1, 2, 3, 4, 5, 6]);
     let modes: Vec<u32> = match kinds::modes(kind) {
         Some(modes) => modes.to_vec(),
-        None => (0..dice.range(1, 4))
-            .map(|_| dice.pick(&[0, 1, 2, 2]))
-            .collect(),
+        None => any_modes(dice, 4),
     };
     if modes.len() > cells {
         return sound_job(dice, cells);
     }
+    job_of(dice, cells, kind, &modes)
+}
+
+/// An outside job with accesses of any modes, often to four cells.
+fn outside_job(dice: &mut Dice, cells: usize) -> Job {
+    let most = cells.min(4);
+    let modes = match dice.percent(40) {
+        true => (0..most).map(|_| dice.pick(&[0, 0, 1, 2])).collect(),
+        false => any_modes(dice, most as i64),
+    };
+    job_of(dice, cells, 0, &modes)
+}
+
+/// Those of one access up to so many.
+fn any_modes(dice: &mut Dice, most: i64) -> Vec<u32> {
+    let count = dice.range(1, most);
+    (0..count).map(|_| dice.pick(&[0, 1, 2, 2])).collect()
+}
+
+/// A job of the kind with these modes, on any of the cells.
+fn job_of(dice: &mut Dice, cells: usize, kind: u32, modes: &[u32]) -> Job {
     let mut order: Vec<u8> = (0..cells as u8).collect();
     dice.shuffle(&mut order);
     let mut accesses = [(0, 0); 4];
@@ -364,24 +445,58 @@ fn maybe_writer(dice: &mut Dice, number: usize, firsts: &[usize], writers: usize
     }
 }
 
-/// R176: one fixed rule of the values handed to a run: the kind's result, and of an
-/// outside job sums of all that it was handed.
-pub fn reported(job: &Job, handed: [i32; 4]) -> Report {
+/// The job as `engine` has it.
+fn plain(job: &Job) -> engine::Job {
+    engine::Job {
+        kind: u32::from(job.kind),
+        p: job.parameter,
+        accesses: accesses(job),
+    }
+}
+
+/// R176: one fixed rule of the values handed to a run: the kind's result. An outside
+/// job goes by a sum of all that it was handed: it may write or not, and writes the
+/// heights that were there, all but one of them, or others.
+pub fn reported(job: &engine::Job, handed: [i32; 4]) -> Report {
     let outside = |_| {
         let next = |sum: i32, value: &i32| sum.wrapping_mul(3).wrapping_add(*value);
-        let sum = handed.iter().fold(job.parameter, next);
+        let sum = handed.iter().fold(job.p, next);
+        let mut values = handed;
+        match sum.rem_euclid(5) {
+            0 | 1 => {}
+            2 => values[sum.rem_euclid(4) as usize] ^= sum,
+            _ => values = handed.map(|value| value.wrapping_add(sum)),
+        }
         Report {
-            values: handed.map(|value| value.wrapping_add(sum)),
-            mark: u32::from(job.has_maybe_write() && sum % 4 == 1),
+            values,
+            mark: u32::from(job.has_maybe_write() && sum.rem_euclid(3) == 1),
         }
     };
-    kinds::result(u32::from(job.kind), job.parameter, handed).unwrap_or_else(outside)
+    kinds::result(job.kind, job.p, handed).unwrap_or_else(outside)
 }
 
 /// Whether to look closely at a batch now: always where it has few jobs, now and
 /// then where it has many and looking takes long.
 pub fn worth_a_look(dice: &mut Dice, record: &Record) -> bool {
     record.job_count < 20 || dice.percent(5)
+}
+
+/// The start of a guess that would take from a fallen one.
+fn start_behind_fallen(record: &Record) -> Option<Call> {
+    let start = |job| Call::Step {
+        number: 1,
+        job,
+        values: NOTHING,
+        mark: 0,
+    };
+    let fallen = |source: u8| source > 0 && record.ask_job(usize::from(source) - 1).validity == 3;
+    let held = 0..usize::from(record.job_count);
+    let mut fitting = held.filter(|&job| fits(record, 1, job));
+    let found = fitting.find(|&job| {
+        let mut after = record.clone();
+        start(job).on_record(&mut after).0 == 0 && after.runs[job].sources.into_iter().any(fallen)
+    });
+    found.map(start)
 }
 
 /// Whether the job is in the state for the step.
@@ -398,4 +513,31 @@ fn fits(record: &Record, number: u8, job: usize) -> bool {
 
 fn height(dice: &mut Dice) -> i32 {
     dice.range(-2000, 2000) as i32
+}
+
+/// One of the pool; any where that is empty.
+fn height_of(dice: &mut Dice, pool: &[i32]) -> i32 {
+    match pool {
+        [] => height(dice),
+        _ => dice.pick(pool),
+    }
+}
+
+/// Half of the time no pool.
+fn some_pool(dice: &mut Dice) -> Vec<i32> {
+    match dice.percent(50) {
+        true => Vec::new(),
+        false => twins(dice),
+    }
+}
+
+/// Two heights that are twins, sometimes with a third; many lie at the ends of the
+/// range.
+fn twins(dice: &mut Dice) -> Vec<i32> {
+    let one = dice.pick(&[0, 1, 1500, -1500, i32::MAX, i32::MIN, i32::MIN + 1]);
+    let other = dice.twin(one);
+    match dice.below(4) {
+        0 => vec![one, other, height(dice)],
+        _ => vec![one, other],
+    }
 }

@@ -57,6 +57,17 @@ impl Dice {
         number as u32
     }
 
+    /// A height that a careless look may take for this one: it differs in the highest
+    /// bit alone, in the sign, in the lowest bit, or by 256.
+    pub fn twin(&mut self, one: i32) -> i32 {
+        match self.below(4) {
+            0 => one ^ i32::MIN,
+            1 => one.wrapping_neg(),
+            2 => one ^ 1,
+            _ => one.wrapping_add(256),
+        }
+    }
+
     pub fn percent(&mut self, chance: usize) -> bool {
         self.below(100) < chance
     }
@@ -101,21 +112,28 @@ fn sound_draft(dice: &mut Dice) -> Draft {
         94..=95 => (dice.range(1, 64), dice.range(0, 2)),
         _ => (64, 128),
     };
-    let heights: Vec<i32> = {
-        let wide = dice.percent(25);
-        let mut heights: Vec<i32> = (0..cells).map(|_| height(dice, wide)).collect();
-        if dice.percent(20) {
-            let first = heights[0];
-            heights.fill(first);
-        }
-        heights
-    };
-    let favour = dice.below(6);
+    let favour = dice.below(8);
+    let heights = heights(dice, cells, favour);
     let jobs = (0..jobs).map(|_| job(dice, &heights, favour)).collect();
     let guess = u32::from(dice.percent(88));
     let mut draft = Draft { heights, jobs, guess, steps: Vec::new() };
     draft.steps = steps(dice, &draft);
     draft
+}
+
+/// Heights for so many cells: each by itself, all alike, or alike but for twins.
+fn heights(dice: &mut Dice, cells: i64, favour: usize) -> Vec<i32> {
+    let wide = dice.percent(25);
+    let mut heights: Vec<i32> = (0..cells).map(|_| height(dice, wide)).collect();
+    let first = heights[0];
+    let alike = if favour == MARKS { 60 } else { 20 };
+    if dice.percent(alike) {
+        heights.fill(first);
+    }
+    if dice.percent(20) {
+        heights.fill_with(|| if dice.percent(50) { first } else { dice.twin(first) });
+    }
+    heights
 }
 
 /// A height, ordinary or, if it may be wide, near an end of the 32-bit range.
@@ -136,6 +154,10 @@ fn height(dice: &mut Dice, wide: bool) -> i32 {
     }
 }
 
+/// The favour of jobs that report mark 1 and leave heights as they are, or bring back
+/// what was there before.
+const MARKS: usize = 7;
+
 fn job(dice: &mut Dice, heights: &[i32], favour: usize) -> (u32, i32, Vec<u32>) {
     // Weights of kinds 1 to 6.
     let weights: [usize; 6] = match favour {
@@ -144,7 +166,9 @@ fn job(dice: &mut Dice, heights: &[i32], favour: usize) -> (u32, i32, Vec<u32>) 
         2 => [1, 4, 4, 1, 1, 0],  // spikes and shifts
         3 => [1, 2, 1, 1, 4, 1],  // means, which take from several
         4 => [0, 1, 2, 2, 1, 4],  // maybe-writers
-        _ => [3, 4, 1, 1, 3, 0],  // writers
+        5 => [3, 4, 1, 1, 3, 0],  // writers
+        6 => [4, 3, 1, 3, 1, 0],  // sets, whose runs end alike whatever they are handed
+        _ => [1, 2, 4, 0, 1, 3],  // MARKS: spikes below 0 and pairs
     };
     let fitting = |kind: usize| kinds::modes(kind as u32 + 1).map_or(0, <[u32]>::len) <= heights.len();
     let total: usize = (0..6).filter(|&kind| fitting(kind)).map(|kind| weights[kind]).sum();
@@ -176,6 +200,7 @@ fn job(dice: &mut Dice, heights: &[i32], favour: usize) -> (u32, i32, Vec<u32>) 
         3 => match dice.below(8) {
             0 => i64::from(height(dice, true)),
             1 => dice.range(-2, 0),
+            2..=4 if favour == MARKS => dice.range(-2, -1),
             2 | 3 => (at(0) - at(1)).abs() + dice.range(-1, 1),
             _ => dice.range(0, 1600),
         },
@@ -184,7 +209,11 @@ fn job(dice: &mut Dice, heights: &[i32], favour: usize) -> (u32, i32, Vec<u32>) 
             1..=3 => at(0) + dice.range(-1, 1),
             _ => at(0) + dice.range(-400, 60),
         },
-        1 => i64::from(height(dice, dice_is_wide(heights))),
+        1 => match dice.below(4) {
+            0 => at(0),
+            1 => i64::from(dice.twin(heights[cells[0] as usize])),
+            _ => i64::from(height(dice, dice_is_wide(heights))),
+        },
         _ => i64::from(height(dice, true)),
     };
     let p = p.clamp(i64::from(i32::MIN), i64::from(i32::MAX)) as i32;

@@ -303,8 +303,8 @@ impl Job {
 }
 
 impl Run {
-    /// The jobs whose guesses this run took from. R93: looked up in all four
-    /// places, in use or not.
+    /// The jobs whose guesses this run took from. R91: in all four places, in use or
+    /// not.
     fn took_from(&self) -> impl Iterator<Item = usize> + '_ {
         let named = self.sources.iter().filter(|&&source| source != 0);
         named.map(|&source| usize::from(source) - 1)
@@ -410,31 +410,21 @@ impl Record {
 // The rules between jobs
 
 /// The rules on one record in form. What they ask again and again is worked out
-/// once: of every held job its cells, those it does not only read, and whether
-/// its guess has fallen.
+/// once: of every held job its cells, and those it does not only read.
 struct Rules<'a> {
     record: &'a Record,
     cells: Vec<u64>,
     cells_not_read: Vec<u64>,
-    fallen: Vec<bool>,
 }
 
 impl<'a> Rules<'a> {
     fn of(record: &'a Record) -> Rules<'a> {
         let jobs = &record.jobs[record.held()];
-        let mut rules = Rules {
+        Rules {
             record,
             cells: jobs.iter().map(Job::cells).collect(),
             cells_not_read: jobs.iter().map(Job::cells_not_read).collect(),
-            fallen: Vec::new(),
-        };
-        // A guess takes only from jobs before its own, or the record is out of
-        // form: so going up, each answer is there before it is needed.
-        for job in record.held() {
-            let fallen = rules.has_fallen(job);
-            rules.fallen.push(fallen);
         }
-        rules
     }
 
     /// R20: a cell in common, and not both only read it.
@@ -458,44 +448,46 @@ impl<'a> Rules<'a> {
         self.record.running[job] == 1
     }
 
-    /// Whether the job has a guess that is out or stored. R43, R44: no other has
-    /// fallen or stands.
+    /// Whether the job has a guess that is out or stored. R44: no other stands or has
+    /// fallen.
     fn has_live_guess(&self, job: usize) -> bool {
         let phase = self.record.phase[job];
         phase == OUT || phase == STORED
     }
 
-    /// R43: a job that it looked past is settled with mark 1, or the guess of a job
-    /// that it took from has fallen or is thrown away. R93: with mark 1 is, where
-    /// it is settled and the mark stored in its run is 1.
-    fn has_fallen(&self, job: usize) -> bool {
-        let run = &self.record.runs[job];
-        let past =
-            |k: usize| run.looked_past(k) && self.is_settled(k) && self.record.runs[k].wrote == 1;
-        let lost = |k: usize| self.fallen[k] || self.record.phase[k] == THROWN_AWAY;
-        self.has_live_guess(job) && ((0..job).any(past) || run.took_from().any(lost))
+    /// Whether at each place in use the run was handed what the cell holds now. R93:
+    /// handed is what stands so in the run.
+    fn was_handed_present(&self, job: usize) -> bool {
+        let handed = self.record.runs[job].handed;
+        let mut places = self.record.jobs[job].used().iter().zip(handed);
+        places.all(|(&(cell, _), value)| self.record.cells[usize::from(cell)] == value)
     }
 
-    /// R44: out or stored, of a ready job, and not fallen.
+    /// R43: out or stored, of a ready job, and handed what is there.
     fn guess_stands(&self, job: usize) -> bool {
-        self.has_live_guess(job) && self.is_ready(job) && !self.fallen[job]
+        self.has_live_guess(job) && self.is_ready(job) && self.was_handed_present(job)
     }
 
-    /// R45. Whether the job is settled, or its own run is out, is not asked.
+    /// R44: out or stored, of a ready job, and handed anything else.
+    fn guess_has_fallen(&self, job: usize) -> bool {
+        self.has_live_guess(job) && self.is_ready(job) && !self.was_handed_present(job)
+    }
+
+    /// R45. Whether the job's own run is out is not asked.
     fn judged(&self, job: usize) -> u8 {
-        if !self.has_live_guess(job) {
+        if self.is_settled(job) || !self.has_live_guess(job) {
             NONE_TO_JUDGE
-        } else if self.fallen[job] {
-            FALLEN
         } else if self.guess_stands(job) {
             STANDS
+        } else if self.guess_has_fallen(job) {
+            FALLEN
         } else {
             NOT_YET
         }
     }
 
     /// The run that a guess of this job started now would be, or none where a job
-    /// that it would take from has no stored guess or a fallen one (R115).
+    /// that it would take from has no stored guess (R115).
     ///
     /// R41: for each access, back through the unsettled jobs. Maybe-writers of
     /// the cell are looked past; the first writer ends it, and what its guess has
@@ -514,7 +506,8 @@ impl<'a> Rules<'a> {
                 match record.jobs[earlier].access_to(cell) {
                     Some((_, MAYBE)) => run.bypassed |= 1 << earlier,
                     Some((there, WRITE)) => {
-                        if record.phase[earlier] != STORED || self.fallen[earlier] {
+                        // Fallen or not.
+                        if record.phase[earlier] != STORED {
                             return None;
                         }
                         run.handed[place] = record.runs[earlier].reported[there];
@@ -601,7 +594,7 @@ impl Rules<'_> {
         if self.is_ready(job) {
             return 14;
         }
-        // R115: a job to take from has no stored guess, or a fallen one.
+        // R115: a job to take from has no stored guess.
         if self.new_guess(job).is_none() {
             return 15;
         }
@@ -631,7 +624,7 @@ impl Rules<'_> {
             return 15;
         }
         // R118: the guess has fallen.
-        if self.fallen[job] {
+        if self.guess_has_fallen(job) {
             return 18;
         }
         0

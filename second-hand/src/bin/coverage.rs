@@ -1,98 +1,163 @@
 //! `coverage`: reads a stream of plans and prints in how many of them each
-//! thing of interest happened.
+//! thing of interest happened, and how many guesses were kept.
 
 use std::collections::{BTreeMap, BTreeSet};
 use std::io::BufReader;
 
-use second_hand::engine::{Batch, GuessState, Settled, REPORT_OWN, SETTLE, WRITE};
+use second_hand::engine::{Batch, GuessState, Settled, REPORT_GUESS, REPORT_OWN, SETTLE};
+use second_hand::former::{kept_by_each, MOST_WORKED_OUT};
+use second_hand::judging::{Watch, MET};
 use second_hand::{frame, plan};
 
 fn main() -> std::io::Result<()> {
     let mut input = BufReader::new(std::io::stdin().lock());
-    let mut plans = 0u64;
-    let mut sound = 0u64;
-    let mut steps = 0u64;
-    let mut accepted = 0u64;
-    let mut seen: BTreeMap<&'static str, u64> = BTreeMap::new();
-    let mut answers: BTreeMap<u32, u64> = BTreeMap::new();
-    let mut faults: BTreeMap<u32, u64> = BTreeMap::new();
-    let mut cut: BTreeMap<u32, u64> = BTreeMap::new();
-    let mut switches: BTreeMap<u32, u64> = BTreeMap::new();
-
+    let mut coverage = Coverage::default();
     while let Some(bytes) = frame::read(&mut input)? {
-        plans += 1;
+        coverage.plans += 1;
         match plan::read(&bytes) {
-            Err(fault) => {
-                *faults.entry(fault.number).or_default() += 1;
-                *cut.entry(fault.number).or_default() += u64::from(sound_if_cut(&bytes, fault));
-                if let Some(switch) = faulty_switch(&bytes, fault) {
-                    *switches.entry(switch).or_default() += 1;
-                }
-            }
-            Ok(plan) => {
-                sound += 1;
-                let mut batch = plan.batch;
-                let mut numbers = BTreeSet::new();
-                let mut names = BTreeSet::new();
-                for step in plan.steps {
-                    let before = cells_and_mark(&batch, step.job);
-                    let halved = sum_to_halve(&batch, step);
-                    let answer = plan::try_step(&mut batch, step);
-                    let after = cells_and_mark(&batch, step.job);
-                    if before.1 == 0 && after.1 == 1 && before.0 == after.0 {
-                        names.insert(NAMES[10]);
-                    }
-                    if answer == 15 && step.step == 1 && fallen_writer_met(&batch, step.job) {
-                        names.insert(NAMES[11]);
-                    }
-                    if answer == 0 && step.step == 3 && batch.guess_has_fallen(step.job) {
-                        names.insert(NAMES[12]);
-                    }
-                    let there = step.job % PAST_A_BYTE < batch.job_count();
-                    if step.job >= PAST_A_BYTE && there {
-                        names.insert(NAMES[13]);
-                    }
-                    if let Some(sum) = halved.filter(|_| answer == 0) {
-                        names.extend(means_seen(sum));
-                    }
-                    steps += 1;
-                    accepted += u64::from(answer == 0);
-                    numbers.insert(answer);
-                }
-                names.extend(things_seen(&batch));
-                for number in numbers {
-                    *answers.entry(number).or_default() += 1;
-                }
-                for name in names {
-                    *seen.entry(name).or_default() += 1;
-                }
-            }
+            Err(fault) => coverage.faulty(&bytes, fault),
+            Ok(plan) => coverage.sound(plan),
+        }
+    }
+    coverage.print();
+    Ok(())
+}
+
+/// In how many plans each happened, by name or number; and of all plans together the
+/// steps, and the guesses kept by the rules and by the former rule.
+#[derive(Default)]
+struct Coverage {
+    plans: u64,
+    sound: u64,
+    steps: u64,
+    accepted: u64,
+    seen: BTreeMap<&'static str, u64>,
+    answers: BTreeMap<u32, u64>,
+    faults: BTreeMap<u32, u64>,
+    cut: BTreeMap<u32, u64>,
+    switches: BTreeMap<u32, u64>,
+    /// By the plans' own steps.
+    kept: [u64; 2],
+    /// By the chooser's order, with how many batches.
+    kept_by_chooser: [u64; 2],
+    chosen: u64,
+}
+
+impl Coverage {
+    fn faulty(&mut self, bytes: &[u8], fault: plan::Fault) {
+        *self.faults.entry(fault.number).or_default() += 1;
+        *self.cut.entry(fault.number).or_default() += u64::from(sound_if_cut(bytes, fault));
+        if let Some(switch) = faulty_switch(bytes, fault) {
+            *self.switches.entry(switch).or_default() += 1;
         }
     }
 
-    println!("plans {plans}, without fault {sound}, steps {steps}, accepted steps {accepted}");
-    println!("plans in which this happened at least once:");
-    for name in NAMES {
-        println!("  {name}: {}", seen.get(name).copied().unwrap_or(0));
+    fn sound(&mut self, plan: plan::Plan) {
+        self.sound += 1;
+        self.count_kept(&plan);
+        let mut batch = plan.batch;
+        let mut watch = Watch::of(&batch);
+        let (mut numbers, mut names) = (BTreeSet::new(), BTreeSet::new());
+        for step in plan.steps {
+            let answer = try_step(&mut batch, step, &mut names);
+            if answer == 0 {
+                watch.after(&batch, step.step, step.job as usize);
+            }
+            self.steps += 1;
+            self.accepted += u64::from(answer == 0);
+            numbers.insert(answer);
+        }
+        names.extend(things_seen(&batch));
+        let met = MET.iter().zip(watch.met);
+        names.extend(met.filter(|&(_, times)| times > 0).map(|(name, _)| *name));
+        for number in numbers {
+            *self.answers.entry(number).or_default() += 1;
+        }
+        for name in names {
+            *self.seen.entry(name).or_default() += 1;
+        }
     }
-    println!("plans in which a step was answered:");
-    for number in std::iter::once(0).chain(10..=18) {
-        println!("  {number}: {}", answers.get(&number).copied().unwrap_or(0));
+
+    /// The guesses kept when the plan is run, and when its batch is worked to the end.
+    fn count_kept(&mut self, plan: &plan::Plan) {
+        let mut former = plan.clone();
+        former.batch = former.batch.under_former_rule();
+        for (sum, plan) in self.kept.iter_mut().zip([plan.clone(), former]) {
+            *sum += u64::from(plan::run(plan).batch.tally().kept);
+        }
+        if let Some(kept) = kept_by_each(&plan.batch) {
+            self.chosen += 1;
+            self.kept_by_chooser.iter_mut().zip(kept).for_each(|(sum, kept)| *sum += kept);
+        }
     }
-    println!("plans at fault with:");
-    for number in [1, 2, 3, 4, 5, 6, 7, 8, 9, 21, 22] {
-        println!("  {number}: {}", faults.get(&number).copied().unwrap_or(0));
+}
+
+/// Tries the step, and adds what is seen of it.
+fn try_step(batch: &mut Batch, step: plan::Step, names: &mut BTreeSet<&'static str>) -> u32 {
+    let before = cells_and_mark(batch, step.job);
+    let halved = sum_to_halve(batch, step);
+    let answer = plan::try_step(batch, step);
+    let after = cells_and_mark(batch, step.job);
+    let fallen = batch.ask_guess(step.job) == Ok(3);
+    let there = step.job % PAST_A_BYTE < batch.job_count();
+    for (did, name) in [
+        (before.1 == 0 && after.1 == 1 && before.0 == after.0, NAMES[10]),
+        (answer == 0 && step.step == REPORT_GUESS && fallen, NAMES[11]),
+        (step.job >= PAST_A_BYTE && there, NAMES[12]),
+    ] {
+        if did {
+            names.insert(name);
+        }
     }
-    let from_256: u64 = switches.range(PAST_A_BYTE..).map(|(_, times)| times).sum();
-    println!("plans at fault with a switch of 256 or more: {from_256}");
-    for switch in [256, 257] {
-        println!("  {switch}: {}", switches.get(&switch).copied().unwrap_or(0));
+    if let Some(sum) = halved.filter(|_| answer == 0) {
+        names.extend(means_seen(sum));
     }
-    println!("plans at fault on a line that would be right if its numbers were cut to bytes:");
-    for (number, what) in [(5, "cell"), (8, "kind"), (9, "switch")] {
-        println!("  {number}, {what}: {}", cut.get(&number).copied().unwrap_or(0));
+    answer
+}
+
+// ---------------------------------------------------------------------------
+// What is printed
+
+impl Coverage {
+    fn print(&self) {
+        let Coverage { plans, sound, steps, accepted, .. } = self;
+        println!("plans {plans}, without fault {sound}, steps {steps}, accepted steps {accepted}");
+        println!("plans in which this happened at least once:");
+        print_each(NAMES.iter().map(|&name| (name, name)), &self.seen);
+        println!("plans in which a guess was judged so:");
+        print_each(MET.iter().map(|&name| (name, name)), &self.seen);
+        self.print_kept();
+        println!("plans in which a step was answered:");
+        print_each(std::iter::once(0).chain(10..=18).map(|n| (n, n)), &self.answers);
+        println!("plans at fault with:");
+        print_each([1, 2, 3, 4, 5, 6, 7, 8, 9, 21, 22].map(|n| (n, n)), &self.faults);
+        let from_256: u64 = self.switches.range(PAST_A_BYTE..).map(|(_, times)| times).sum();
+        println!("plans at fault with a switch of 256 or more: {from_256}");
+        print_each([256, 257].map(|n| (n, n)), &self.switches);
+        println!("plans at fault on a line that would be right if its numbers were cut to bytes:");
+        print_each([(5, "5, cell"), (8, "8, kind"), (9, "9, switch")], &self.cut);
     }
-    Ok(())
+
+    fn print_kept(&self) {
+        println!("guesses kept by the rules; by the former rule:");
+        let [now, former] = self.kept;
+        println!("  by the plans' own steps, which suit the rules as they are: {now}; {former}");
+        let [now, former] = self.kept_by_chooser;
+        println!(
+            "  by the chooser, in {} batches of at most {MOST_WORKED_OUT} jobs: {now}; {former}",
+            self.chosen
+        );
+    }
+}
+
+/// Of each key how often it was counted.
+fn print_each<K: Ord, N: std::fmt::Display>(
+    lines: impl IntoIterator<Item = (K, N)>,
+    counts: &BTreeMap<K, u64>,
+) {
+    for (key, name) in lines {
+        println!("  {name}: {}", counts.get(&key).copied().unwrap_or(0));
+    }
 }
 
 /// Numbers from here on do not fit a byte.
@@ -134,7 +199,7 @@ fn sound_if_cut(bytes: &[u8], fault: plan::Fault) -> bool {
     }
 }
 
-const NAMES: [&str; 19] = [
+const NAMES: [&str; 18] = [
     "every job settled",
     "guess kept",
     "guess kept with mark 1",
@@ -146,7 +211,6 @@ const NAMES: [&str; 19] = [
     "guess that looked past two jobs or more",
     "guess that took from two guesses or more",
     "job settled with mark 1 and no height changed",
-    "start guess refused at a writer whose stored guess had fallen",
     "report of a guess that had already fallen",
     "step on a job number of 256 or more that would be a job's if it were cut to a byte",
     "mean settled",
@@ -170,42 +234,18 @@ fn sum_to_halve(batch: &Batch, step: plan::Step) -> Option<i64> {
 fn means_seen(sum: i64) -> impl Iterator<Item = &'static str> {
     let odd = sum % 2 != 0;
     let happened = [
-        (true, NAMES[14]),
-        (odd && sum > 0, NAMES[15]),
-        (odd && sum < 0, NAMES[16]),
-        (sum == 1, NAMES[17]),
-        (sum == -1, NAMES[18]),
+        (true, NAMES[13]),
+        (odd && sum > 0, NAMES[14]),
+        (odd && sum < 0, NAMES[15]),
+        (sum == 1, NAMES[16]),
+        (sum == -1, NAMES[17]),
     ];
     happened.into_iter().filter(|&(did, _)| did).map(|(_, name)| name)
 }
 
-/// Whether a writer that this job's guess would meet has a stored report of a
-/// guess that has fallen.
-fn fallen_writer_met(batch: &Batch, job: u32) -> bool {
-    let Some(held) = batch.job(job) else { return false };
-    held.accesses.iter().any(|access| {
-        let writer = (0..job).rev().find(|&earlier| {
-            let wrote = batch.job(earlier).is_some_and(|other| {
-                other.accesses.iter().any(|a| a.cell == access.cell && a.mode == WRITE)
-            });
-            wrote && batch.ask_job(earlier) == Ok(Settled::No)
-        });
-        writer.is_some_and(|writer| {
-            let stored = batch
-                .guess(writer)
-                .is_some_and(|guess| matches!(guess.state, GuessState::Stored(_)));
-            stored && batch.guess_has_fallen(writer)
-        })
-    })
-}
-
 fn cells_and_mark(batch: &Batch, job: u32) -> (Vec<i32>, u32) {
     let cells = (0..batch.cell_count()).filter_map(|cell| batch.ask_cell(cell).ok()).collect();
-    let mark = match batch.ask_job(job) {
-        Ok(Settled::ByOwnRun { mark }) | Ok(Settled::ByGuess { mark }) => mark,
-        Ok(Settled::No) | Err(_) => 0,
-    };
-    (cells, mark)
+    (cells, batch.ask_job(job).map_or(0, |how| how.mark()))
 }
 
 fn things_seen(batch: &Batch) -> BTreeSet<&'static str> {
