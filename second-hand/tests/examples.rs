@@ -1,4 +1,4 @@
-//! The worked examples of the rules, P1 to P13, Monday's and Thursday's batch, and
+//! The worked examples of the rules, P1 to P15, Monday's and Thursday's batch, and
 //! some others.
 
 use second_hand::answer;
@@ -167,7 +167,7 @@ fn p8_the_worked_plan() {
 }
 
 #[test]
-fn p9_both_guesses_fall() {
+fn p9_one_guess_falls_and_one_is_not_yet_judged() {
     let mut batch = Batch::open(&[1300]).unwrap();
     batch.insert(4, 1400, &[on(0, MAYBE)]).unwrap();
     batch.insert(2, 20, &[on(0, WRITE)]).unwrap();
@@ -179,12 +179,15 @@ fn p9_both_guesses_fall() {
     assert_eq!(batch.start_guess(2), Ok([1320, 0, 0, 0]));
     assert_eq!(batch.report_guess(2, report([1340, 0, 0, 0], 0)), Ok(()));
     assert_eq!(batch.report_own(0, report([1400, 0, 0, 0], 1)), Ok(()));
-    assert!(batch.guess_has_fallen(1) && batch.guess_has_fallen(2));
+    assert_eq!([1, 2].map(|job| batch.ask_guess(job)), [Ok(3), Ok(1)]);
     assert_eq!(batch.start_own(2), Err(15));
     assert_eq!(batch.settle(1), Err(18));
+    assert_eq!(batch.settle(2), Err(15));
     assert_eq!(batch.start_own(1), Ok([1400, 0, 0, 0]));
+    assert_eq!([1, 2].map(|job| batch.ask_guess(job)), [Ok(0), Ok(1)]);
     assert_eq!(batch.report_own(1, report([1420, 0, 0, 0], 0)), Ok(()));
-    // Job 2 took from a guess that was thrown away.
+    // Job 2 was handed 1320.
+    assert_eq!([1, 2].map(|job| batch.ask_guess(job)), [Ok(0), Ok(3)]);
     assert_eq!(batch.settle(2), Err(18));
     assert_eq!(batch.start_own(2), Ok([1420, 0, 0, 0]));
     assert_eq!(batch.report_own(2, report([1440, 0, 0, 0], 0)), Ok(()));
@@ -213,11 +216,11 @@ fn thursday() {
 }
 
 #[test]
-fn mark_1_with_an_unchanged_height_fells_the_guess() {
+fn mark_1_with_an_unchanged_height_leaves_the_guess() {
     // A spike with p below 0 puts 1,500 in for 1,500.
     let plan = "cell value\n0 1500\n1 1500\nkind p a b c\n3 -1 0 1 -\n2 20 0 - -\nguess\n1\n\
-                step job\n0 0\n1 1\n3 1\n2 0\n4 1\n0 1\n2 1\n";
-    let output = "step answer\n0 0\n1 0\n3 0\n2 0\n4 18\n0 0\n2 0\njob how mark\n0 1 1\n1 1 0\n\
+                step job\n0 0\n1 1\n3 1\n2 0\n0 1\n4 1\n";
+    let output = "step answer\n0 0\n1 0\n3 0\n2 0\n0 17\n4 0\njob how mark\n0 1 1\n1 2 0\n\
                   cell value\n0 1520\n1 1500\n";
     assert_eq!(told(plan), output);
 }
@@ -364,8 +367,27 @@ impl Both {
         assert_eq!(self.batch.ask_looked_past(job as u32), Ok(told));
     }
 
+    /// The guesses of the first jobs are judged so, on both.
+    fn judges<const JOBS: usize>(&self, due: [u8; JOBS]) {
+        for (job, due) in due.into_iter().enumerate() {
+            assert_eq!(self.record.ask_job(job).validity, due, "job {job}");
+            assert_eq!(self.batch.ask_guess(job as u32), Ok(u32::from(due)));
+        }
+    }
+
+    /// A step with this value and mark in its report, if it is one.
+    fn step_with(&mut self, number: u8, job: usize, value: i32, mark: u8) -> Answer {
+        let values = [value, 0, 0, 0];
+        self.answer(Call::Step {
+            number,
+            job,
+            values,
+            mark,
+        })
+    }
+
     /// Both are finished or both are not, and have these cells.
-    fn stands(&self, finished: bool, cells: [i32; 2]) {
+    fn stands<const CELLS: usize>(&self, finished: bool, cells: [i32; CELLS]) {
         assert_eq!(self.batch.finished(), finished);
         assert_eq!(self.record.ask_batch().finished, finished);
         for (cell, height) in cells.into_iter().enumerate() {
@@ -410,11 +432,8 @@ fn p11_of_p9() -> Tally {
     for (number, job) in [(0, 0), (1, 1), (3, 1), (1, 2), (3, 2), (2, 0)] {
         assert_eq!(both.step(number, job), 0);
     }
-    // Both guesses have fallen, and none is thrown away yet.
-    for job in [1, 2] {
-        assert!(both.batch.guess_has_fallen(job));
-        assert_eq!(both.record.ask_job(job as usize).validity, 3);
-    }
+    // The first guess has fallen, the second is not yet judged, and none is thrown away.
+    both.judges([0, 3, 1]);
     both.has([3, 2, 0, 0, 2]);
     assert_eq!(both.step(0, 2), 15);
     both.has([3, 2, 0, 0, 2]);
@@ -505,11 +524,95 @@ fn p13_what_a_guess_looked_past() {
     }
     // The pair has changed places.
     assert_eq!(both.record.ask_job(2).wrote, 1);
-    assert!(both.batch.guess_has_fallen(3));
-    assert_eq!(both.record.ask_job(3).validity, 3);
+    both.judges([0, 0, 0, 3]);
     assert_eq!(both.step(0, 3), 0);
     both.tells(3, none, none);
     let refused = (11, GuessTold::default());
     assert_eq!(both.record.ask_looked_past(4), refused);
     assert_eq!(both.batch.ask_looked_past(4), Err(11));
+}
+
+/// P14's batch, up to the report of job 0 with mark 1 and this height.
+fn p14(height: i32) -> Both {
+    let mut both = Both::open(&[1500]);
+    both.insert(0, 0, 2);
+    both.insert(2, 20, 1);
+    assert_eq!(both.call(Call::Seal(1)), 0);
+    assert_eq!(both.tried(1, 1), (0, [1500, 0, 0, 0]));
+    both.judges([0, 1]);
+    assert_eq!(both.step(3, 1), 0);
+    assert_eq!(both.record.ask_job(1).reported, [1520, 0, 0, 0]);
+    both.judges([0, 1]);
+    assert_eq!(both.step_with(0, 0, 0, 0), (0, [1500, 0, 0, 0]));
+    both.judges([0, 1]);
+    assert_eq!(both.step_with(2, 0, height, 1).0, 0);
+    both
+}
+
+#[test]
+fn p14_the_height_that_was_there() {
+    let mut both = p14(1500);
+    assert_eq!(both.record.ask_job(0).wrote, 1);
+    both.judges([0, 2]);
+    assert_eq!(both.step(0, 1), 17);
+    both.chooses(4, 1, 1);
+    assert_eq!(both.step(4, 1), 0);
+    both.judges([0, 0]);
+    both.stands(true, [1520]);
+}
+
+#[test]
+fn p14_another_height() {
+    let mut both = p14(1501);
+    both.judges([0, 3]);
+    assert_eq!(both.step(4, 1), 18);
+    both.chooses(0, 1, 1);
+    assert_eq!(both.tried(0, 1), (0, [1501, 0, 0, 0]));
+    both.judges([0, 0]);
+    assert_eq!(both.step(2, 1), 0);
+    both.judges([0, 0]);
+    both.stands(true, [1521]);
+}
+
+/// P15's batch, up to the report of job 1's own run with this height.
+fn p15(height: i32) -> Both {
+    let mut both = Both::open(&[1390]);
+    both.insert(4, 1400, 2);
+    both.insert(1, 1500, 1);
+    both.insert(2, 20, 1);
+    assert_eq!(both.call(Call::Seal(1)), 0);
+    for (job, handed, reported) in [(1, 1390, 1500), (2, 1500, 1520)] {
+        assert_eq!(both.tried(1, job), (0, [handed, 0, 0, 0]));
+        assert_eq!(both.step(3, job), 0);
+        assert_eq!(both.record.ask_job(job).reported, [reported, 0, 0, 0]);
+    }
+    assert_eq!(both.step(0, 0), 0);
+    both.judges([0, 1, 1]);
+    assert_eq!(both.step(2, 0), 0);
+    both.stands(false, [1400]);
+    both.judges([0, 3, 1]);
+    assert_eq!(both.tried(0, 1), (0, [1400, 0, 0, 0]));
+    both.judges([0, 0, 1]);
+    assert_eq!(both.step_with(2, 1, height, 0).0, 0);
+    both
+}
+
+#[test]
+fn p15_the_source_gives_the_same_again() {
+    let mut both = p15(1500);
+    both.judges([0, 0, 2]);
+    assert_eq!(both.step(0, 2), 17);
+    assert_eq!(both.step(4, 2), 0);
+    both.judges([0, 0, 0]);
+    both.stands(true, [1520]);
+}
+
+#[test]
+fn p15_the_source_gives_another() {
+    let mut both = p15(1501);
+    both.judges([0, 0, 3]);
+    assert_eq!(both.step(4, 2), 18);
+    assert_eq!(both.tried(0, 2), (0, [1501, 0, 0, 0]));
+    assert_eq!(both.step(2, 2), 0);
+    both.stands(true, [1521]);
 }

@@ -162,8 +162,11 @@ fn open_ones() {
     assert_eq!(asked(&record, 127), (0, both(all, all)));
     record.committed[..127].fill(1);
     assert_eq!(asked(&record, 127), (0, both(all, (0, None))));
-    // It has fallen, and is told of.
+    // It stands, and has fallen where another height is there; it is told of both.
+    assert_eq!(record.ask_job(127).validity, 2);
+    record.cells[0] = 1;
     assert_eq!(record.ask_job(127).validity, 3);
+    assert_eq!(asked(&record, 127), (0, both(all, (0, None))));
 }
 
 /// R79: there is a guess to tell of where it is out or stored, and nothing else is
@@ -249,7 +252,7 @@ impl Worked {
         assert_eq!(batch, Ok(told), "job {job}");
         if told.open.size > 0 {
             assert!(!self.ledger.is_ready(job), "R184, job {job}");
-            assert_ne!(self.record.ask_job(job).validity, 2, "R184, job {job}");
+            assert_eq!(self.record.ask_job(job).validity, 1, "R184, job {job}");
         }
         told
     }

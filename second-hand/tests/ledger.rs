@@ -21,6 +21,7 @@ impl Worked {
         } else if worth_a_look(dice, &self.record) {
             self.ledger.claim(&self.cells(), &self.settled());
             self.batch_is_claimed();
+            self.judged_alike();
             self.can_go_on();
         }
     }
@@ -51,6 +52,14 @@ impl Worked {
         };
         let jobs: Vec<(u8, u8)> = (0..self.batch.job_count()).map(settled).collect();
         self.ledger.claim(&cells, &jobs);
+    }
+
+    /// Guesses are judged as the ledger has it (R45, R164).
+    fn judged_alike(&self) {
+        for (job, due) in self.ledger.judged().into_iter().enumerate() {
+            assert_eq!(self.record.ask_job(job).validity, due, "job {job}");
+            assert_eq!(self.batch.ask_guess(job as u32), Ok(u32::from(due)));
+        }
     }
 
     /// R8, and R172: while a job of a sealed batch is not settled, some step is

@@ -1000,19 +1000,22 @@ fn settled_by_a_guess_never_started() {
     assert_eq!(answers(&record, 1), [17, 13, 13, 13, 0]);
     assert_eq!(answers(&record, 2), [15, 13, 13, 13, 15]);
     assert_eq!(record.choose(), (0, 4, 1, 2));
-    // With mark 1 the guess of job 1 has fallen, and with it that of job 2.
+    // So it does with mark 1: only heights count.
     record.runs[0].wrote = 1;
     assert_eq!(record.ask_job(0).wrote, 1);
+    assert_eq!(answers(&record, 1), [17, 13, 13, 13, 0]);
+    record.cells[0] = 1501;
     assert_eq!(answers(&record, 1), [0, 13, 13, 13, 18]);
     assert_eq!(answers(&record, 2), [15, 13, 13, 13, 15]);
     assert_eq!(record.choose(), (0, 0, 1, 2));
-    // The mark counts only once the job is settled.
-    record.committed[0] = 0;
-    assert_eq!(record.ask_job(0).wrote, 0);
-    assert_eq!(answers(&record, 1), [15, 13, 13, 13, 15]);
+    // Without mark and with another height it has fallen all the same.
+    record.runs[0].wrote = 0;
+    assert_eq!(answers(&record, 1), [0, 13, 13, 13, 18]);
     record.committed = [1; 128];
     record.committed[2] = 0;
     assert_eq!(answers(&record, 2), [0, 13, 13, 13, 18]);
+    record.cells[0] = 1520;
+    assert_eq!(answers(&record, 2), [17, 13, 13, 13, 0]);
 }
 
 #[test]
@@ -1057,31 +1060,38 @@ fn judgements<const JOBS: usize>(record: &Record) -> [u8; JOBS] {
     std::array::from_fn(|job| record.ask_job(job).validity)
 }
 
-/// R45 on what calls lead to: also before the judging is due, a guess that has
-/// fallen is told to have.
+/// R45 on what calls lead to.
 #[test]
 fn judged_on_the_way() {
     let mut record = guessed();
     assert_eq!(judgements(&record), [0, 1, 1, 0]);
     assert_eq!(step(&mut record, 0, 0, 0, 0), 0);
-    let mut marked = record.clone();
-    // Mark 0: job 1 is ready and its guess stands, and settled by it still does.
+    let (mut there, mut raised) = (record.clone(), record.clone());
+    // Mark 0: job 1 is ready and its guess stands; settled, there is none to judge.
     assert_eq!(step(&mut record, 2, 0, 0, 0), 0);
     assert_eq!(judgements(&record), [0, 2, 1, 0]);
     assert_eq!(step(&mut record, 4, 1, 0, 0), 0);
-    assert_eq!(judgements(&record), [0, 2, 2, 0]);
-    // Mark 1: both have fallen, that of job 2 though its job is not ready.
-    assert_eq!(step(&mut marked, 2, 0, 1400, 1), 0);
-    assert_eq!(judgements(&marked), [0, 3, 3, 0]);
-    // Thrown away, there is none to judge; what took from it has still fallen.
-    assert_eq!(step(&mut marked, 0, 1, 0, 0), 0);
-    assert_eq!(judgements(&marked), [0, 0, 3, 0]);
-    assert_eq!(step(&mut marked, 2, 1, 5, 0), 0);
-    assert_eq!(judgements(&marked), [0, 0, 3, 0]);
+    assert_eq!(judgements(&record), [0, 0, 2, 0]);
+    assert_eq!(step(&mut record, 4, 2, 0, 0), 0);
+    assert_eq!(judgements(&record), [0, 0, 0, 0]);
+    // Mark 1 with the height that was there.
+    assert_eq!(step(&mut there, 2, 0, 1500, 1), 0);
+    assert_eq!(judgements(&there), [0, 2, 1, 0]);
+    // With another: the guess of job 1 has fallen, that of job 2 is not yet judged.
+    assert_eq!(step(&mut raised, 2, 0, 1501, 1), 0);
+    assert_eq!(judgements(&raised), [0, 3, 1, 0]);
+    // Thrown away, there is none to judge; what took from it waits for the own run.
+    assert_eq!(step(&mut raised, 0, 1, 0, 0), 0);
+    assert_eq!(judgements(&raised), [0, 0, 1, 0]);
+    let mut again = raised.clone();
+    assert_eq!(step(&mut raised, 2, 1, 1521, 0), 0);
+    assert_eq!(judgements(&raised), [0, 0, 3, 0]);
+    assert_eq!(step(&mut again, 2, 1, 1520, 0), 0);
+    assert_eq!(judgements(&again), [0, 0, 2, 0]);
 }
 
-/// R45, R93: how the job is settled and whether its own run is out play no part,
-/// nor does whether the batch is sealed or guessing is on.
+/// R45, R93: whether the job's own run is out plays no part, nor does whether the
+/// batch is sealed or guessing is on. Settled, it has no guess to judge.
 #[test]
 fn judged_whatever_the_job_has_come_to() {
     for number in 0..3 * 2 * 2 * 2 * 2u8 {
@@ -1091,14 +1101,15 @@ fn judged_whatever_the_job_has_come_to() {
         record.phase[1] = 1 + number / 6 % 2;
         record.sealed = number / 12 % 2;
         record.speculating = number / 24;
-        assert_eq!(record.ask_job(1).validity, 1);
-        record.committed[0] = 1;
-        assert_eq!(record.ask_job(1).validity, 2);
-        record.runs[0].wrote = 1;
-        assert_eq!(record.ask_job(1).validity, 3);
-        // Looked past and of mark 1, but not settled.
-        record.committed[0] = 0;
-        assert_eq!(record.ask_job(1).validity, 1);
+        // Not ready, ready, and with another height there; then not ready again.
+        let mut seen = Vec::new();
+        for (settled, height) in [(0, 1500), (1, 1500), (1, 1501), (0, 1501)] {
+            record.committed[0] = settled;
+            record.cells[0] = height;
+            seen.push(record.ask_job(1).validity);
+        }
+        let due = if number % 3 == 0 { [1, 2, 3, 1] } else { [0; 4] };
+        assert_eq!(seen, due, "{number}");
         for phase in [0, 3] {
             record.phase[1] = phase;
             assert_eq!(record.ask_job(1).validity, 0);
@@ -1106,28 +1117,52 @@ fn judged_whatever_the_job_has_come_to() {
     }
 }
 
-/// R43: what fells is the guess of the job taken from, not how that job stands.
+/// R44: nothing but heights counts: no mark, no job looked past and no guess that was
+/// taken from, whatever became of it.
 #[test]
-fn judged_by_what_it_took() {
-    let mut record = guessed();
-    record.committed[..2].fill(1);
-    // Never started, of a settled job or not: neither fallen nor thrown away.
-    record.phase[1] = 0;
-    record.runs[0].wrote = 1;
-    assert_eq!(judgements(&record), [0, 0, 2, 0]);
-    record.committed[1] = 0;
-    assert_eq!(judgements(&record), [0, 0, 1, 0]);
-    for (phase, first) in [(1, 3), (2, 3), (3, 0)] {
-        record.phase[1] = phase;
-        assert_eq!(judgements(&record), [0, first, 3, 0]);
+fn judged_by_heights_alone() {
+    for number in 0..4 * 2 * 2 * 2 * 4u8 {
+        let mut record = guessed();
+        record.committed[..2].fill(1);
+        record.phase[1] = number % 4;
+        record.runs[0].wrote = number / 4 % 2;
+        record.runs[1].wrote = number / 8 % 2;
+        record.runs[2].bypassed = u128::from(number / 16 % 2) * 3;
+        record.runs[2].sources[3] = number / 32 % 3;
+        record.runs[1].reported[0] = 1500;
+        assert_eq!(judgements(&record), [0, 0, 3, 0], "{number}");
+        record.cells[0] = 1520;
+        assert_eq!(judgements(&record), [0, 0, 2, 0], "{number}");
+        assert_eq!(answers(&record, 2), [17, 13, 13, 13, 0], "{number}");
     }
-    // R93: in a place not in use too. Job 3 conflicts with none, and is ready.
-    record.phase[3] = 1;
-    assert_eq!(judgements(&record), [0, 0, 3, 2]);
-    record.runs[3].sources = [0, 0, 0, 3];
-    assert_eq!(judgements(&record), [0, 0, 3, 3]);
-    record.runs[2].sources = [0; 4];
-    assert_eq!(judgements(&record), [0, 0, 1, 2]);
+}
+
+/// R43: each place in use counts, and no other. (Its guess is of a ready job, which no
+/// list of calls leads to.)
+#[test]
+fn judged_at_each_place_in_use() {
+    let cells = [0, 1500, i32::MAX, -1500];
+    for arity in 1..=4 {
+        let outside = job(0, 0, &[(3, READ), (0, MAYBE), (2, WRITE), (1, READ)][..arity]);
+        let mut record = record(&cells, &[outside], 1);
+        record.phase[0] = 1;
+        record.runs[0].handed = [-1500, 0, i32::MAX, 1500];
+        assert_eq!(judgements(&record), [2]);
+        for place in 0..4 {
+            let was = record.runs[0].handed[place];
+            let others = [was ^ 1, was ^ i32::MIN, was.wrapping_neg(), was ^ 256, was ^ (1 << 16)];
+            for other in others.into_iter().filter(|&other| other != was) {
+                record.runs[0].handed[place] = other;
+                let due = if place < arity { 3 } else { 2 };
+                assert_eq!(judgements(&record), [due], "place {place} of {arity}, {other}");
+            }
+            record.runs[0].handed[place] = was;
+        }
+        // All wrong; and what is reported plays no part.
+        record.runs[0].reported = record.runs[0].handed;
+        record.runs[0].handed = [7; 4];
+        assert_eq!(judgements(&record), [3]);
+    }
 }
 
 #[test]
@@ -1158,7 +1193,7 @@ fn own_run_and_guess_out_together() {
 fn thrown_away_without_an_own_run() {
     let mut record = guessed();
     record.phase[1] = 3;
-    // It has no stored report and lets the guess of job 2 fall.
+    // It has no stored report.
     assert_eq!(answers(&record, 1), [15, 13, 13, 13, 13]);
     record.committed[0] = 1;
     // It does not stand, fallen or not.
@@ -1181,42 +1216,25 @@ fn thrown_away_without_an_own_run() {
 }
 
 #[test]
-fn taken_from_a_job_without_a_guess() {
-    let mut record = guessed();
-    record.committed[0] = 1;
-    record.committed[1] = 1;
-    // Never started: neither fallen nor thrown away, whatever it looked past.
-    record.phase[1] = 0;
-    record.runs[0].wrote = 1;
-    assert_eq!(answers(&record, 2), [17, 13, 13, 13, 0]);
-    // Out or stored, it has fallen, also when its job is settled.
-    for phase in [1, 2, 3] {
-        record.phase[1] = phase;
-        assert_eq!(answers(&record, 2), [0, 13, 13, 13, 18]);
-    }
-}
-
-#[test]
 fn origins_that_are_no_writers() {
     let mut record = quay(1);
     // Job 3 conflicts with none; it is ready, and yet its guess is stored.
     record.phase[3] = 2;
+    record.runs[3].handed = [1480, 1, 2, 3];
     record.runs[3].reported = [44, 45, 46, 47];
     assert_eq!(answers(&record, 3), [17, 13, 13, 13, 0]);
     assert_eq!(record.choose(), (0, 4, 3, 1));
-    // A shift that it looked past is settled with mark 1.
+    // A shift that it looked past is settled with mark 1; a source in a place without
+    // an access is thrown away.
     record.runs[3].bypassed = 1 << 1;
     record.committed[1] = 1;
-    assert_eq!(answers(&record, 3), [17, 13, 13, 13, 0]);
     record.runs[1].wrote = 1;
-    assert_eq!(answers(&record, 3), [0, 13, 13, 13, 18]);
-    record.runs[3].bypassed = 0;
-    // A source in a place without an access, thrown away.
     record.runs[3].sources = [0, 0, 0, 3];
-    assert_eq!(answers(&record, 3), [17, 13, 13, 13, 0]);
     record.phase[2] = 3;
-    assert_eq!(answers(&record, 3), [0, 13, 13, 13, 18]);
-    record.phase[2] = 0;
+    assert_eq!(answers(&record, 3), [17, 13, 13, 13, 0]);
+    let mut other = record.clone();
+    other.cells[1] = 1481;
+    assert_eq!(answers(&other, 3), [0, 13, 13, 13, 18]);
     assert_eq!(step(&mut record, 4, 3, 0, 0), 0);
     assert_eq!(record.cells[..3], [1500, 44, 0]);
     assert_eq!((record.committed[3], record.phase[3]), (2, 2));
@@ -1228,6 +1246,7 @@ fn stored_values_of_cells_not_written() {
     let free = job(0, 0, &[(0, READ), (1, WRITE), (2, MAYBE)]);
     let mut record = record(&[1, 2, 3, 4], &[free], 0);
     record.phase[0] = 2;
+    record.runs[0].handed = [1, 2, 3, 0];
     record.runs[0].reported = [10, 20, 30, 40];
     // Guessing is off, but only starting a guess asks for that.
     assert_eq!(answers(&record, 0), [17, 12, 13, 13, 0]);
@@ -1249,8 +1268,9 @@ fn mark_one_without_mode_two() {
     assert_eq!(record.cells[0], 1520);
     assert_eq!(record.ask_job(1).wrote, 1);
     assert_eq!(answers(&record, 2), [17, 13, 13, 13, 0]);
+    // Looked past with that mark, it changes nothing.
     record.runs[2].bypassed = 2;
-    assert_eq!(answers(&record, 2), [0, 13, 13, 13, 18]);
+    assert_eq!(answers(&record, 2), [17, 13, 13, 13, 0]);
 }
 
 #[test]
@@ -1342,15 +1362,13 @@ fn choice(record: &Record) -> (u8, u8, u8, u8) {
     (19, 0, 0, 0)
 }
 
-/// R43 word for word, without what is known of other jobs.
-fn has_fallen(record: &Record, job: usize) -> bool {
-    let run = &record.runs[job];
-    let marked = |k: usize| record.committed[k] != 0 && record.runs[k].wrote == 1;
-    let past = (0..128).any(|k| run.bypassed >> k & 1 == 1 && marked(k));
-    let taken = run.sources.iter().filter(|&&source| source != 0);
-    let lost = |k: usize| record.phase[k] == 3 || has_fallen(record, k);
-    let live = record.phase[job] == 1 || record.phase[job] == 2;
-    live && (past || taken.map(|&source| usize::from(source) - 1).any(lost))
+/// R43 word for word.
+fn was_handed_what_is_there(record: &Record, job: usize) -> bool {
+    let held = record.jobs[job];
+    (0..usize::from(held.arity)).all(|place| {
+        let cell = usize::from(held.accesses[place].0);
+        record.runs[job].handed[place] == record.cells[cell]
+    })
 }
 
 /// R45 word for word.
@@ -1358,10 +1376,11 @@ fn judged(record: &Record, job: usize) -> u8 {
     let settled = |k: usize| record.committed[k] != 0;
     let ready = (0..job).all(|k| settled(k) || !conflict(&record.jobs[k], &record.jobs[job]));
     match record.phase[job] {
-        1 | 2 if has_fallen(record, job) => 3,
-        1 | 2 if ready => 2,
-        1 | 2 => 1,
-        _ => 0,
+        _ if settled(job) => 0,
+        0 | 3 => 0,
+        _ if !ready => 1,
+        _ if was_handed_what_is_there(record, job) => 2,
+        _ => 3,
     }
 }
 
@@ -1433,7 +1452,8 @@ fn damage(dice: &mut Dice, record: &Record) -> Record {
     Record::from_bytes(&bytes)
 }
 
-/// The record with any states, marks and origins of its jobs that are in form.
+/// The record with any states, marks and origins of its jobs that are in form. Handed
+/// is what is there, the same with one place changed, or what was.
 fn any_states(dice: &mut Dice, record: &Record) -> Record {
     let mut other = record.clone();
     for job in 0..usize::from(record.job_count) {
@@ -1447,12 +1467,21 @@ fn any_states(dice: &mut Dice, record: &Record) -> Record {
             let some = u64::from(dice.one_in(6));
             *source = (some * dice.below(job as u64 + 1)) as u8;
         }
+        if !dice.one_in(3) {
+            for place in 0..4 {
+                let cell = usize::from(record.jobs[job].accesses[place].0) % 64;
+                run.handed[place] = record.cells[cell];
+            }
+            if dice.one_in(2) {
+                run.handed[dice.below(4) as usize] ^= 1 << dice.below(32);
+            }
+        }
     }
     other
 }
 
 /// R45 wherever a job may have come to: each of 0 to 3 comes up with each state of
-/// a guess for which it may, of jobs settled and not.
+/// a guess for which it may; of settled jobs only 0.
 #[test]
 fn judged_in_any_state() {
     let mut dice = Dice(0x45_1234_5678);
@@ -1470,9 +1499,10 @@ fn judged_in_any_state() {
         }
     }
     println!("judged in any state, by settled, state of the guess, and number: {met:?}");
-    for phases in met {
+    for (settled, phases) in met.iter().enumerate() {
         for (phase, numbers) in phases.iter().enumerate() {
-            let may = |number: usize| (phase == 1 || phase == 2) == (number != 0);
+            let live = (phase == 1 || phase == 2) && settled == 0;
+            let may = |number: usize| live == (number != 0);
             let came_up = |number: usize| numbers[number] > 100;
             assert!((0..4).all(|n| came_up(n) == may(n)), "{met:?}");
         }
@@ -1485,7 +1515,7 @@ fn damaged_records() {
     let mut in_form = 0;
     let mut accepted = [0; 5];
     let mut four = Four::default();
-    for _ in 0..1500 {
+    for _ in 0..3000 {
         let inserts = 1 + dice.below(10);
         let calls = dice.below(4 * inserts);
         let sound = one_list(&mut dice, 6, inserts, calls, 1000).record;

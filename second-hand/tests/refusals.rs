@@ -122,15 +122,17 @@ fn refusals_13_to_15() {
     on.start_own(0).unwrap();
     refused(&mut on, 13, |b| b.start_own(0));
     refused(&mut on, 13, |b| b.start_guess(0));
-    on.report_own(0, report(1500, 1)).unwrap();
+    on.report_own(0, report(1501, 1)).unwrap();
     refused(&mut on, 13, |b| b.start_own(0));
     refused(&mut on, 13, |b| b.start_guess(0));
     refused(&mut on, 13, |b| b.report_own(0, report(0, 0)));
     refused(&mut on, 13, |b| b.settle(0));
-    // The writer before job 2 has a stored report, but its guess has fallen.
-    refused(&mut on, 15, |b| b.start_guess(2));
+    // The writer before job 2 has a stored report, and though its guess has fallen that
+    // is taken.
+    assert_eq!(on.ask_guess(1), Ok(3));
+    assert_eq!(on.clone().start_guess(2), Ok([1520, 0, 0, 0]));
     on.start_own(1).unwrap();
-    // And now it is thrown away.
+    // Thrown away, it is none.
     refused(&mut on, 15, |b| b.start_guess(2));
     refused(&mut on, 13, |b| b.settle(1));
     refused(&mut on, 13, |b| b.report_guess(1, report(0, 0)));
@@ -141,7 +143,7 @@ fn a_thrown_away_guess_that_was_still_out_cannot_report() {
     let mut on = batch(1);
     on.start_guess(1).unwrap();
     on.start_own(0).unwrap();
-    on.report_own(0, report(1500, 1)).unwrap();
+    on.report_own(0, report(1501, 1)).unwrap();
     on.start_own(1).unwrap();
     refused(&mut on, 13, |b| b.report_guess(1, report(0, 0)));
 }
@@ -157,19 +159,22 @@ fn refusals_16_to_18() {
     refused(&mut on, 16, |b| b.report_guess(1, report(0, 1)));
 
     // The guess of job 1 stands, out as well as stored.
-    let mut stands = on.clone();
-    stands.report_own(0, report(0, 0)).unwrap();
-    refused(&mut stands, 17, |b| b.start_own(1));
-    stands.report_guess(1, report(1520, 0)).unwrap();
-    refused(&mut stands, 17, |b| b.start_own(1));
-    stands.settle(1).unwrap();
-    assert_eq!(stands.ask_cell(0), Ok(1520));
+    // So it does with mark 1 and the height that was there.
+    for found in [report(0, 0), report(1500, 1)] {
+        let mut stands = on.clone();
+        stands.report_own(0, found).unwrap();
+        refused(&mut stands, 17, |b| b.start_own(1));
+        stands.report_guess(1, report(1520, 0)).unwrap();
+        refused(&mut stands, 17, |b| b.start_own(1));
+        stands.settle(1).unwrap();
+        assert_eq!(stands.ask_cell(0), Ok(1520));
+    }
 
     // It falls, and its report is still taken, but not settled.
-    on.report_own(0, report(1500, 1)).unwrap();
+    on.report_own(0, report(1501, 1)).unwrap();
     on.report_guess(1, report(1520, 0)).unwrap();
     refused(&mut on, 18, |b| b.settle(1));
-    assert_eq!(on.start_own(1), Ok([1500, 0, 0, 0]));
+    assert_eq!(on.start_own(1), Ok([1501, 0, 0, 0]));
 }
 
 #[test]

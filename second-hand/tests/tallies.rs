@@ -100,13 +100,13 @@ fn many_jobs_in_many_states() {
 #[test]
 fn a_fallen_guess_is_of_the_rest() {
     let mut record = readers(3);
-    record.committed[0] = 1;
-    record.runs[0].wrote = 1;
     for phase in [1, 2] {
         record.phase[1] = phase;
-        record.runs[1].bypassed = 1;
-        assert_eq!(record.ask_job(1).validity, 3);
-        assert_eq!(asked(&record), [3, 1, 0, 0, 1]);
+        for (handed, validity) in [(record.cells[0], 2), (record.cells[0] + 1, 3)] {
+            record.runs[1].handed[0] = handed;
+            assert_eq!(record.ask_job(1).validity, validity);
+            assert_eq!(asked(&record), [3, 1, 0, 0, 1]);
+        }
     }
 }
 
@@ -165,13 +165,13 @@ fn a_morning() {
     then(&mut record, 0, 3, 0, [4, 2, 2, 0, 0]);
     then(&mut record, 2, 3, 0, [4, 2, 2, 0, 0]);
     assert!(record.ask_batch().finished);
-    // It wrote: both have fallen, and go as their jobs' own runs start.
+    // It wrote: the first has fallen, and goes as its job's own run starts. That gives
+    // what the guess had given, so the second is kept.
     then(&mut marked, 2, 0, 1, [4, 2, 0, 0, 2]);
     then(&mut marked, 0, 1, 0, [4, 2, 0, 1, 1]);
     then(&mut marked, 2, 1, 0, [4, 2, 0, 1, 1]);
     then(&mut marked, 3, 2, 0, [4, 2, 0, 1, 1]);
-    then(&mut marked, 0, 2, 0, [4, 2, 0, 2, 0]);
-    then(&mut marked, 2, 2, 0, [4, 2, 0, 2, 0]);
+    then(&mut marked, 4, 2, 0, [4, 2, 1, 1, 0]);
 }
 
 // ---------------------------------------------------------------------------
