@@ -611,6 +611,11 @@ impl Batch {
         self.sealed.is_some() && (0..self.jobs.len()).all(|job| self.is_settled(job))
     }
 
+    /// The heights of all cells.
+    pub fn cells(&self) -> Vec<i32> {
+        self.cells.clone()
+    }
+
     /// R71; R105 where there is no such cell.
     pub fn ask_cell(&self, cell: u32) -> Result<i32, u32> {
         self.cells.get(cell as usize).copied().ok_or(5)

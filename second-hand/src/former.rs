@@ -76,15 +76,30 @@ const WORKERS: usize = 4;
 /// So many jobs may it have; with more it takes long.
 pub const MOST_WORKED_OUT: u32 = 60;
 
-/// How many guesses are kept when the batch, which is sealed, is worked to its end: by
-/// R43 and R44, and by the former rule. All else is done alike. None where it has too
-/// many jobs.
+/// How many guesses are kept when the batch, which is sealed and has no runs, is worked
+/// to its end: by R43 and R44, and by the former rule. All else is done alike. None
+/// where it has too many jobs. Panics unless both end with the heights of the
+/// insertion-order run (R176).
 pub fn kept_by_each(batch: &Batch) -> Option<[u64; 2]> {
     if batch.job_count() > MOST_WORKED_OUT {
         return None;
     }
+    let end = one_by_one(batch.clone()).cells();
     let batches = [batch.clone(), batch.clone().under_former_rule()];
-    Some(batches.map(|batch| u64::from(worked_out(batch).tally().kept)))
+    Some(batches.map(|batch| {
+        let batch = worked_out(batch);
+        assert_eq!(batch.cells(), end, "R176");
+        u64::from(batch.tally().kept)
+    }))
+}
+
+/// The batch worked to its end by own runs in the order of the jobs.
+fn one_by_one(mut batch: Batch) -> Batch {
+    for job in 0..batch.job_count() {
+        let handed = batch.start_own(job).unwrap();
+        report(&mut batch, (REPORT_OWN, job, handed));
+    }
+    batch
 }
 
 /// The batch worked to its end: each worker that is free gets what the chooser names;

@@ -62,7 +62,7 @@ pub struct Watch {
 impl Watch {
     pub fn of(batch: &Batch) -> Watch {
         Watch {
-            cells: cells(batch),
+            cells: batch.cells(),
             jobs: Vec::new(),
             met: [0; MET.len()],
         }
@@ -92,7 +92,7 @@ impl Watch {
 
     /// What a job that has just been settled wrote.
     fn settled(&mut self, batch: &Batch, job: usize) {
-        let now = cells(batch);
+        let now = batch.cells();
         if is_marked(batch, job) {
             for access in &batch.job(job as u32).unwrap().accesses {
                 let cell = access.cell as usize;
@@ -181,12 +181,6 @@ impl Watch {
 fn is_thrown_away(batch: &Batch, job: usize) -> bool {
     let guess = batch.guess(job as u32);
     guess.is_some_and(|guess| guess.state == GuessState::ThrownAway)
-}
-
-fn cells(batch: &Batch) -> Vec<i32> {
-    let mut cells = vec![0; batch.cell_count() as usize];
-    batch.copy_cells(&mut cells, 0).unwrap();
-    cells
 }
 
 /// The places where the job's guess was handed another height than is there now, with

@@ -244,8 +244,7 @@ fn means_seen(sum: i64) -> impl Iterator<Item = &'static str> {
 }
 
 fn cells_and_mark(batch: &Batch, job: u32) -> (Vec<i32>, u32) {
-    let cells = (0..batch.cell_count()).filter_map(|cell| batch.ask_cell(cell).ok()).collect();
-    (cells, batch.ask_job(job).map_or(0, |how| how.mark()))
+    (batch.cells(), batch.ask_job(job).map_or(0, |how| how.mark()))
 }
 
 fn things_seen(batch: &Batch) -> BTreeSet<&'static str> {
