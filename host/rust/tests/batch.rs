@@ -123,15 +123,110 @@ fn a_job_tells_how_it_stands_at_each_step() {
     assert_eq!(told(&batch, 1), (Committed::NotYet, false, false, Phase::Stored, Validity::Valid));
     assert_eq!(told(&batch, 2), (Committed::NotYet, false, false, Phase::Out, Validity::Undecided));
     batch.commit(1).unwrap();
-    assert_eq!(told(&batch, 1), (Committed::BySpeculation, false, false, Phase::Stored, Validity::Valid));
+    assert_eq!(told(&batch, 1), (Committed::BySpeculation, false, false, Phase::Stored, Validity::NoRun));
     assert_eq!(told(&batch, 2), (Committed::NotYet, false, false, Phase::Out, Validity::Valid));
-    // The first floor changes something: both guesses have fallen, and a worker that still has one can know.
+    // The first floor changes something: the guess of the shift has fallen, and a worker that still had it could know; that of
+    // the last job is not yet to be judged.
     found_something.report_own(0, Report::written(&[1400])).unwrap();
     assert_eq!(told(&found_something, 0), (Committed::ByOwnRun, true, false, Phase::NeverStarted, Validity::NoRun));
     assert_eq!(told(&found_something, 1), (Committed::NotYet, false, false, Phase::Stored, Validity::Invalid));
-    assert_eq!(told(&found_something, 2), (Committed::NotYet, false, false, Phase::Out, Validity::Invalid));
+    assert_eq!(told(&found_something, 2), (Committed::NotYet, false, false, Phase::Out, Validity::Undecided));
     found_something.start_own(1).unwrap();
     assert_eq!(told(&found_something, 1), (Committed::NotYet, false, true, Phase::Discarded, Validity::NoRun));
+    // The shift gives 1420 now, and the last job's guess was handed 1320.
+    found_something.report_own(1, Report::of(&[1420])).unwrap();
+    assert_eq!(told(&found_something, 2), (Committed::NotYet, false, false, Phase::Out, Validity::Invalid));
+}
+
+fn validity(batch: &Batch, job: usize) -> Validity {
+    batch.job(job).unwrap().validity
+}
+
+/// P9 of docs/RULES.md.
+#[test]
+fn only_the_guess_of_a_ready_job_has_fallen() {
+    let mut batch = sealed(&[1300], &[Job::floor(0, 1400), Job::shift(0, 20), Job::shift(0, 20)]);
+    batch.start_own(0).unwrap();
+    for (job, handed) in [(1, 1300), (2, 1320)] {
+        assert_eq!(batch.start_speculation(job), Ok([handed, 0, 0, 0]));
+        batch.report_speculation(job, Report::of(&[handed + 20])).unwrap();
+    }
+    batch.report_own(0, Report::written(&[1400])).unwrap();
+    assert_eq!([1, 2].map(|job| validity(&batch, job)), [Validity::Invalid, Validity::Undecided]);
+    assert_eq!(batch.start_own(2), Err(Refusal::MUST_WAIT));
+    assert_eq!(batch.start_own(1), Ok([1400, 0, 0, 0]));
+}
+
+/// P14, with this height in the report of job 0, which has mark 1.
+fn outside_job_found(height: i32) -> Batch {
+    let mut batch = sealed(&[1500], &[Job::outside(0, &[(0, Mode::MaybeWrite)]), Job::shift(0, 20)]);
+    assert_eq!(batch.start_speculation(1), Ok([1500, 0, 0, 0]));
+    batch.report_speculation(1, Report::of(&[1520])).unwrap();
+    batch.start_own(0).unwrap();
+    assert_eq!(validity(&batch, 1), Validity::Undecided);
+    batch.report_own(0, Report::written(&[height])).unwrap();
+    batch
+}
+
+#[test]
+fn a_guess_that_was_handed_the_right_height_is_kept() {
+    let mut batch = outside_job_found(1500);
+    assert!(batch.job(0).unwrap().wrote);
+    assert_eq!(validity(&batch, 1), Validity::Valid);
+    assert_eq!(batch.start_own(1), Err(Refusal::GUESS_STANDS));
+    batch.commit(1).unwrap();
+    assert_eq!(validity(&batch, 1), Validity::NoRun);
+    assert_eq!(batch.cells(), [1520]);
+    let mut batch = outside_job_found(1501);
+    assert_eq!(validity(&batch, 1), Validity::Invalid);
+    assert_eq!(batch.commit(1), Err(Refusal::GUESS_FALLEN));
+    assert_eq!(batch.start_own(1), Ok([1501, 0, 0, 0]));
+}
+
+/// P15, with this height in the report of job 1's own run.
+fn source_ran_again(height: i32) -> Batch {
+    let mut batch = sealed(&[1390], &[Job::floor(0, 1400), Job::set(0, 1500), Job::shift(0, 20)]);
+    for (job, handed, reported) in [(1, 1390, 1500), (2, 1500, 1520)] {
+        assert_eq!(batch.start_speculation(job), Ok([handed, 0, 0, 0]));
+        batch.report_speculation(job, Report::of(&[reported])).unwrap();
+    }
+    batch.start_own(0).unwrap();
+    batch.report_own(0, Report::written(&[1400])).unwrap();
+    assert_eq!([1, 2].map(|job| validity(&batch, job)), [Validity::Invalid, Validity::Undecided]);
+    assert_eq!(batch.start_own(1), Ok([1400, 0, 0, 0]));
+    batch.report_own(1, Report::of(&[height])).unwrap();
+    batch
+}
+
+#[test]
+fn a_guess_whose_source_gives_the_same_again_is_kept() {
+    let mut batch = source_ran_again(1500);
+    assert_eq!(batch.job(1).unwrap().phase, Phase::Discarded);
+    assert_eq!(validity(&batch, 2), Validity::Valid);
+    batch.commit(2).unwrap();
+    assert_eq!(batch.cells(), [1520]);
+    let mut batch = source_ran_again(1501);
+    assert_eq!(validity(&batch, 2), Validity::Invalid);
+    assert_eq!(batch.commit(2), Err(Refusal::GUESS_FALLEN));
+}
+
+/// R115: the report of a guess that has fallen is taken; without a stored one the start waits.
+#[test]
+fn a_guess_is_started_from_a_fallen_one() {
+    let mut batch = sealed(&[1300], &[Job::floor(0, 1400), Job::set(0, 1500), Job::shift(0, 20)]);
+    batch.start_own(0).unwrap();
+    assert_eq!(batch.start_speculation(2), Err(Refusal::MUST_WAIT));
+    batch.start_speculation(1).unwrap();
+    batch.report_own(0, Report::written(&[1400])).unwrap();
+    assert_eq!(validity(&batch, 1), Validity::Invalid);
+    assert_eq!(batch.start_speculation(2), Err(Refusal::MUST_WAIT));
+    batch.report_speculation(1, Report::of(&[1500])).unwrap();
+    assert_eq!(batch.start_speculation(2), Ok([1500, 0, 0, 0]));
+    batch.report_speculation(2, Report::of(&[1520])).unwrap();
+    batch.start_own(1).unwrap();
+    batch.report_own(1, Report::of(&[1500])).unwrap();
+    batch.commit(2).unwrap();
+    assert_eq!(batch.cells(), [1520]);
 }
 
 /// Of the jobs looked past and of the open ones size and lowest.
@@ -352,7 +447,11 @@ fn a_record_is_kept_and_taken_up_again() {
 fn in_any_state(batch: &Batch, random: &mut Random) -> Batch {
     let mut record = *batch.record();
     for job in 0..record.job_count {
+        let present = record.jobs[usize::from(job)].accesses.map(|access| record.cells[usize::from(access.cell)]);
         let (place, run) = (usize::from(job), &mut record.runs[usize::from(job)]);
+        if random.below(2) == 0 {
+            run.handed = present;
+        }
         record.committed[place] = [0, 0, 0, 1, 2][usize::from(random.below(5))];
         record.running[place] = random.below(2);
         record.phase[place] = random.below(4);
@@ -370,7 +469,7 @@ fn calls_keep_a_record_in_form() {
     let start = sealed(&[1300, 5, 7], &jobs);
     let mut random = Random(1);
     let mut accepted = [0; 5];
-    for _ in 0..3000 {
+    for _ in 0..4000 {
         let mut batch = in_any_state(&start, &mut random);
         for _ in 0..8 {
             let (step, job) = (random.step(), usize::from(random.below(5)));
