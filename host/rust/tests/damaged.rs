@@ -1,7 +1,7 @@
 //! Damaged records: bytes of valid records are changed at random, every entry is called on what comes out (and on the valid
 //! ones), and each answer and the record after it are held against the second hand's (`second_hand::record`). The same on
-//! records in form whose jobs are in any state; and asking guesses that looked past any jobs. DAMAGED=COUNT sets how many records,
-//! SEED=NUMBER which; it prints what was met (`cargo test --test damaged -- --nocapture`).
+//! records in form whose jobs are in any state and were handed anything; and asking guesses that looked past any jobs.
+//! DAMAGED=COUNT sets how many records, SEED=NUMBER which; it prints what was met (`cargo test --test damaged -- --nocapture`).
 
 mod met;
 mod sets;
@@ -11,7 +11,7 @@ mod theirs;
 use met::{add, print};
 use sets::Sets;
 use setting::setting;
-use sorghemi::raw::{sorghemi_step_by_value, JobSet, Run, TallyAnswer};
+use sorghemi::raw::{sorghemi_step_by_value, JobAnswer, JobSet, Run, TallyAnswer};
 use sorghemi::{Batch, Job, Mode, Record, Report, Step};
 use std::collections::BTreeMap;
 use std::mem::{offset_of, size_of};
@@ -160,15 +160,17 @@ fn damaged(record: &Record, random: &mut Random, place: fn(&Record, &mut Random)
     Record::from_bytes(&bytes)
 }
 
-/// The record with any states, marks and origins of its jobs that are in form, so that hardly a list of calls leads there. Of
-/// origins there are few, or every guess would have fallen.
+/// The record with any states, marks, handed values and origins of its jobs that are in form, so that hardly a list of calls leads
+/// there.
 fn any_states(record: &Record, random: &mut Random) -> Record {
     let mut record = *record;
     for job in 0..record.job_count as usize {
         record.committed[job] = random.below(3) as u8;
         record.running[job] = random.below(2) as u8;
         record.phase[job] = random.below(4) as u8;
+        let present = present(&record, job);
         let run = &mut record.runs[job];
+        run.handed = any_handed(present, run.handed, random);
         run.wrote = random.one_in(4) as u8;
         run.sources = run.sources.map(|_| if random.one_in(6) { random.below(job + 1) as u8 } else { 0 });
         run.bypassed = JobSet { low: 0, high: 0 };
@@ -179,6 +181,24 @@ fn any_states(record: &Record, random: &mut Random) -> Record {
         }
     }
     record
+}
+
+/// What stands in the cells of the job's four places; of a place not in use in any cell that it names, or 0.
+fn present(record: &Record, job: usize) -> [i32; 4] {
+    record.jobs[job].accesses.map(|access| record.cells.get(access.cell as usize).copied().unwrap_or(0))
+}
+
+/// Mostly what is there, or that with one place changed in one bit or in its sign; else what was handed, or anything.
+fn any_handed(present: [i32; 4], handed: [i32; 4], random: &mut Random) -> [i32; 4] {
+    let (mut values, place) = (present, random.below(4));
+    match random.below(6) {
+        0 => return handed,
+        1 => return [(); 4].map(|()| random.height()),
+        2 | 3 => values[place] ^= 1 << [0, 8, 16, 30, 31][random.below(5)],
+        4 => values[place] = values[place].wrapping_neg(),
+        _ => {}
+    }
+    values
 }
 
 /// A job for the step: mostly one in the state for it, if there is one, and half of the time one on which it is allowed, if a
@@ -223,19 +243,54 @@ const FOUR: [&str; 9] = [
     "the value for the fourth place was taken from a guess",
 ];
 
-/// How a guess is judged, by R45's numbers. Each has to come up.
-const JUDGED: [&str; 4] = ["no guess out or stored", "not yet to be judged", "stands", "fallen"];
+/// How a guess is judged, by R45's numbers. Each has to come up of jobs that are not settled, and of others the first alone.
+const JUDGED: [&str; 4] = ["no guess to judge", "not yet to be judged", "stands", "fallen"];
+
+/// What may be met of a guess that is out or stored. Each has to come up in records with jobs in any state.
+const HANDED: [&str; 9] = [
+    "not yet to be judged, handed what is there",
+    "not yet to be judged, handed another height",
+    "the job settled, handed what is there",
+    "the job settled, handed another height",
+    "stands, another value in a place not in use",
+    "stands, the own run out too",
+    "fallen, the first of four heights alone being wrong",
+    "fallen, the last of four heights alone being wrong",
+    "fallen, a height differing in the highest bit alone",
+];
+
+/// Which of HANDED come up with what asking the job answered.
+fn handed_met(answer: &JobAnswer, present: [i32; 4]) -> [bool; HANDED.len()] {
+    let live = answer.phase == 1 || answer.phase == 2;
+    let (arity, settled) = (answer.job.arity as usize, answer.committed != 0);
+    let wrong: Vec<usize> = (0..4).filter(|&place| answer.handed[place] != present[place]).collect();
+    let right = wrong.iter().all(|&place| place >= arity);
+    let highest = |&place: &usize| place < arity && answer.handed[place] ^ present[place] == i32::MIN;
+    let judged = |number: u8| live && answer.validity == number;
+    [
+        judged(1) && right,
+        judged(1) && !right,
+        live && settled && right,
+        live && settled && !right,
+        judged(2) && !wrong.is_empty(),
+        judged(2) && answer.running == 1,
+        judged(3) && arity == 4 && wrong == [0],
+        judged(3) && arity == 4 && wrong == [3],
+        judged(3) && wrong.iter().any(highest),
+    ]
+}
 
 /// What may be met of the tally of a record that somebody wrote into, and that is still in form. Each has to come up.
 const TALLIES: [&str; 3] = ["out of balance", "in balance, a guess started", "in balance, none started"];
 
 /// How often each entry gave each answer, what was met of jobs with four accesses, how guesses were judged: of jobs that are
-/// not settled, and of settled ones; and what was met of tallies.
+/// not settled, and of settled ones; what they had been handed; and what was met of tallies.
 #[derive(Default)]
 struct Met {
     answers: BTreeMap<(&'static str, u8), u64>,
     four: [u64; FOUR.len()],
     judged: [[u64; 2]; JUDGED.len()],
+    handed: [u64; HANDED.len()],
     tallies: [u64; TALLIES.len()],
 }
 
@@ -250,6 +305,7 @@ impl Met {
         self.answer("ask job", answer.refusal);
         if answer.refusal == 0 {
             self.judged[answer.validity as usize][(answer.committed != 0) as usize] += 1;
+            add(&mut self.handed, handed_met(&answer, present(&both.ours, job)));
         }
     }
 
@@ -321,6 +377,12 @@ impl Met {
         }
     }
 
+    /// R45: a settled job has no guess to judge.
+    fn judged_each_way(&self) {
+        assert!(self.judged.iter().all(|times| times[0] > 0), "no guess was judged so: {:?}", self.judged);
+        assert!(self.judged[1..].iter().all(|times| times[1] == 0), "R45: {:?}", self.judged);
+    }
+
     fn print_answers(&self) {
         println!("Answers met:");
         for ((entry, answer), times) in &self.answers {
@@ -336,6 +398,8 @@ impl Met {
         for (what, times) in JUDGED.iter().zip(self.judged) {
             println!("  {what}: {} and {}", times[0], times[1]);
         }
+        println!("Guesses out or stored:");
+        print(&HANDED, &self.handed);
         println!("Tallies of records in form that were written into:");
         print(&TALLIES, &self.tallies);
     }
@@ -415,7 +479,7 @@ fn damaged_records_are_refused_or_answered_soundly() {
     }
     met.inserts_came_up();
     assert!(met.four.iter().all(|&times| times > 0), "something never came up with four accesses: {:?}", met.four);
-    assert!(met.judged.iter().all(|times| times[0] + times[1] > 0), "no guess was judged so: {:?}", met.judged);
+    met.judged_each_way();
     assert!(met.tallies.iter().all(|&times| times > 0), "no tally was so: {:?}", met.tallies);
 }
 
@@ -435,7 +499,8 @@ fn jobs_in_any_state_are_answered_soundly() {
     assert_eq!(met.answers.get(&("ask batch", 32)), None, "all are in form");
     assert_eq!(met.answers.get(&("ask tally", 32)), None, "all are in form");
     met.inserts_came_up();
-    assert!(met.judged.iter().flatten().all(|&times| times > 0), "no guess was judged so: {:?}", met.judged);
+    met.judged_each_way();
+    assert!(met.handed.iter().all(|&times| times > 0), "no guess was handed so: {:?}", met.handed);
     assert!(met.tallies.iter().all(|&times| times > 0), "no tally was so: {:?}", met.tallies);
 }
 
