@@ -98,10 +98,12 @@ impl Morning {
         (0..self.ledger.jobs.len()).map(|job| self.hands.both.ask_job(job)).collect()
     }
 
-    /// R171 and R173 to R175, as the library is asked.
+    /// R171 and R173 to R175, as the library is asked; and R45, as the ledger judges guesses.
     fn claim(&self) {
-        let settled: Vec<(u8, u8)> = self.jobs().iter().map(|job| (job.committed, job.wrote)).collect();
+        let jobs = self.jobs();
+        let settled: Vec<(u8, u8)> = jobs.iter().map(|job| (job.committed, job.wrote)).collect();
         self.ledger.claim(&self.cells(), &settled);
+        assert_eq!(jobs.iter().map(|job| job.validity).collect::<Vec<u8>>(), self.ledger.judged(), "R45: {:?}", self.ledger);
     }
 
     /// R179, as the library is asked: one job more, not settled and without a run; all else is as it was.

@@ -6,14 +6,14 @@
 
 mod hands;
 mod met;
+mod morning;
 mod sets;
 mod setting;
 #[allow(dead_code)] // Calls that only tests/damaged.rs makes.
 mod theirs;
 
-use hands::Hands;
 use met::{add, print};
-use second_hand::ledger::Ledger;
+use morning::Morning;
 use second_hand::lists::{Call, Manner};
 use second_hand::plans::Dice;
 use second_hand::record;
@@ -25,27 +25,7 @@ use sorghemi::{Batch, Jobs, Refusal, Speculation};
 use std::collections::VecDeque;
 use theirs::told;
 
-/// A batch on its way: in all hands, and by what the calls alone say.
-struct Morning {
-    hands: Hands,
-    ledger: Ledger,
-}
-
 impl Morning {
-    fn open(heights: &[i32]) -> Morning {
-        Morning { hands: Hands::open(heights), ledger: Ledger::open(heights) }
-    }
-
-    fn record(&self) -> &record::Record {
-        &self.hands.both.theirs
-    }
-
-    fn make(&mut self, call: &Call) -> u8 {
-        let answer = self.hands.make(call);
-        self.ledger.enter(call, answer);
-        answer.0
-    }
-
     /// A call that has to be accepted.
     fn accept(&mut self, call: Call) {
         assert_eq!(self.make(&call), 0, "{call:?}");
@@ -117,8 +97,9 @@ impl Met {
         }
         if answer.bypassed.size > 0 {
             let (ready, judged) = (ledger.is_ready(job), hands.both.ask_job(job).validity);
+            let settled = ledger.jobs[job].counted.is_some();
             assert!(!ready || answer.open.size == 0, "R184: job {job} of {ledger:?}");
-            assert!(judged == 3 || (judged == 2) == ready, "R45: job {job} of {ledger:?} is judged {judged}");
+            assert_eq!((judged == 0, judged == 1), (settled, !ready), "R45: job {job} of {ledger:?} is judged {judged}");
         }
         self.asked += 1;
     }
