@@ -262,7 +262,7 @@ impl Batch {
         self.guess_handed(job as u32) == Some(self.present_values(job))
     }
 
-    /// R43
+    /// R43; or by the former rule, where the batch is worked by that.
     fn guess_stands(&self, job: usize) -> bool {
         let sound = match self.by_former_rule {
             false => self.was_handed_present(job),
@@ -330,7 +330,7 @@ impl Batch {
                         looked_past.insert(earlier);
                     }
                     Some((there, WRITE)) => {
-                        // Of a fallen guess too, but by the former rule.
+                        // Also of a fallen guess, but not by the former rule.
                         let report = self.stored_report(earlier)?;
                         if self.by_former_rule && former::has_fallen(self, earlier) {
                             return None;

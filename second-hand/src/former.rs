@@ -1,5 +1,5 @@
 //! The former rule, by which guesses fell before R43 and R44 compared heights. It is
-//! kept for R185, and for the figure of how many guesses it would have kept; nothing
+//! here for R185, and for the figure of how many guesses it would have kept; nothing
 //! else goes by it. R numbers are the rules of docs/RULES.md.
 
 use std::collections::VecDeque;

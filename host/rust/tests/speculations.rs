@@ -31,8 +31,9 @@ impl Morning {
         assert_eq!(self.make(&call), 0, "{call:?}");
     }
 
+    /// With mark 1 it writes another height than the first.
     fn step(&mut self, number: u8, job: usize, mark: u8) {
-        self.accept(Call::Step { number, job, values: [0; 4], mark });
+        self.accept(Call::Step { number, job, values: [i32::from(mark); 4], mark });
     }
 
     /// An outside job with these cells and modes.
