@@ -229,7 +229,11 @@ fn any_job(dice: &mut Dice, cells: u64) -> Job {
     for place in 0..4 {
         let mut cell = dice.below(cells);
         // In use mostly one that the job does not have yet, if there is one.
-        let taken = |cell: u64| accesses[..place].iter().any(|&(other, _)| u64::from(other) == cell);
+        let taken = |cell: u64| {
+            accesses[..place]
+                .iter()
+                .any(|&(other, _)| u64::from(other) == cell)
+        };
         while (place as u64) < arity.min(cells) && taken(cell) && !dice.one_in(40) {
             cell = dice.below(cells);
         }
@@ -1108,7 +1112,11 @@ fn judged_whatever_the_job_has_come_to() {
             record.cells[0] = height;
             seen.push(record.ask_job(1).validity);
         }
-        let due = if number % 3 == 0 { [1, 2, 3, 1] } else { [0; 4] };
+        let due = if number % 3 == 0 {
+            [1, 2, 3, 1]
+        } else {
+            [0; 4]
+        };
         assert_eq!(seen, due, "{number}");
         for phase in [0, 3] {
             record.phase[1] = phase;
@@ -1143,18 +1151,32 @@ fn judged_by_heights_alone() {
 fn judged_at_each_place_in_use() {
     let cells = [0, 1500, i32::MAX, -1500];
     for arity in 1..=4 {
-        let outside = job(0, 0, &[(3, READ), (0, MAYBE), (2, WRITE), (1, READ)][..arity]);
+        let outside = job(
+            0,
+            0,
+            &[(3, READ), (0, MAYBE), (2, WRITE), (1, READ)][..arity],
+        );
         let mut record = record(&cells, &[outside], 1);
         record.phase[0] = 1;
         record.runs[0].handed = [-1500, 0, i32::MAX, 1500];
         assert_eq!(judgements(&record), [2]);
         for place in 0..4 {
             let was = record.runs[0].handed[place];
-            let others = [was ^ 1, was ^ i32::MIN, was.wrapping_neg(), was ^ 256, was ^ (1 << 16)];
+            let others = [
+                was ^ 1,
+                was ^ i32::MIN,
+                was.wrapping_neg(),
+                was ^ 256,
+                was ^ (1 << 16),
+            ];
             for other in others.into_iter().filter(|&other| other != was) {
                 record.runs[0].handed[place] = other;
                 let due = if place < arity { 3 } else { 2 };
-                assert_eq!(judgements(&record), [due], "place {place} of {arity}, {other}");
+                assert_eq!(
+                    judgements(&record),
+                    [due],
+                    "place {place} of {arity}, {other}"
+                );
             }
             record.runs[0].handed[place] = was;
         }
