@@ -102,7 +102,7 @@ fn settle(step: Step, job: usize, settled: &Settled) -> String {
     }
     text += if settled.changes.is_empty() { " No height changes.\n" } else { "\n" };
     for fall in &settled.falls {
-        text += &format!("  The guess of job {} has fallen: {}.\n", fall.job, why::cause_of(fall.cause));
+        text += &format!("  The guess of job {} has fallen: {}.\n", fall.job, why::cause_of(fall));
     }
     if !settled.stand.is_empty() {
         let (whose, verb) = if settled.stand.len() == 1 { ("guess", "stands") } else { ("guesses", "stand") };
@@ -135,5 +135,30 @@ fn judged(state: &JobState) -> &'static str {
         Validity::Valid => " and stands",
         Validity::Invalid => " and has fallen",
         Validity::Undecided | Validity::NoRun => "",
+    }
+}
+
+#[cfg(test)]
+mod tests {
+    use super::*;
+    use crate::plan;
+
+    #[test]
+    fn only_a_report_on_a_fallen_guess_comes_too_late() {
+        // When the second shift's guess is reported its height is another one already, but a floor test before it is open.
+        let early = plan::sound(
+            b"cell value\n0 1390\nkind p a b c\n4 1400 0 - -\n2 20 0 - -\n4 1400 0 - -\n2 20 0 - -\nguess\n1\nstep job\n\
+1 1\n3 1\n1 3\n0 0\n2 0\n0 1\n2 1\n3 3\n0 2\n2 2\n",
+        );
+        let text = explained(&early).unwrap();
+        assert!(!text.contains("has fallen already"), "{text}");
+        let late = plan::sound(
+            b"cell value\n0 1390\nkind p a b c\n4 1400 0 - -\n2 20 0 - -\nguess\n1\nstep job\n1 1\n0 0\n2 0\n3 1\n",
+        );
+        let fallen = "The guess of job 1 has fallen: it was handed 1390 for cell 0, where job 0 has written 1400.";
+        let report =
+            "Accepted: the report is stored: cell 0 at 1410, mark 0.\n  The guess has fallen already, and will not be settled.";
+        let text = explained(&late).unwrap();
+        assert!(text.contains(fallen) && text.contains(report), "{text}");
     }
 }

@@ -95,7 +95,7 @@ fn dependences(arrows: &[Arrow], lanes: &lanes::Lanes, sheet: &Sheet) -> String 
     body
 }
 
-/// A line in the column in which guesses fell, from the job that made them fall.
+/// A line in the column in which guesses fell, from the job that wrote another height than they were handed.
 fn fall_lines(rows: &Rows, sheet: &Sheet) -> String {
     let mut lines = String::new();
     for (number, row) in rows.jobs.iter().enumerate() {

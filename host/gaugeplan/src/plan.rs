@@ -88,6 +88,15 @@ pub fn read(plan: &[u8]) -> Result<Reading, Contradiction> {
     Ok(Reading::Sound(Sound { plan, answer }))
 }
 
+/// A plan that is known to be sound.
+#[cfg(test)]
+pub fn sound(plan: &[u8]) -> Sound {
+    match read(plan) {
+        Ok(Reading::Sound(sound)) => sound,
+        _ => panic!("the plan is sound"),
+    }
+}
+
 fn fault_of(answer: &[u8]) -> Option<Fault> {
     let text = std::str::from_utf8(answer).ok()?;
     let (number, line) = text.lines().nth(1)?.split_once(' ')?;

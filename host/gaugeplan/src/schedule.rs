@@ -111,7 +111,7 @@ mod tests {
 
     #[test]
     fn a_fallen_guess_is_dropped() {
-        // The spike test is out, both others wait for it and are guessed; it writes, so the guesses fall unreported.
+        // The spike test is out, both others wait for it and are guessed; it writes, so the shift's guess falls unreported.
         assert_eq!(steps_with(9), "0 0\n1 1\n1 2\n2 0\n0 1\n3 2\n4 2\n2 1\n");
     }
 

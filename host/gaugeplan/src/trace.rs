@@ -4,7 +4,7 @@
 use crate::dependence::{self, Dependences};
 use crate::plan::{self, Contradiction, Plan, Sound, StepLine};
 use crate::why::{self, Why};
-use sorghemi::{Batch, Committed, JobState, Phase, Refusal, Report, Step, Tally, Validity};
+use sorghemi::{Batch, Committed, JobState, Mode, Phase, Refusal, Report, Step, Tally, Validity};
 use std::fmt::Write;
 
 /// The whole run of a plan.
@@ -62,25 +62,26 @@ pub struct Settled {
     pub mark: bool,
     /// The cells whose heights are other ones now: the cell, before, after.
     pub changes: Vec<(usize, i32, i32)>,
-    /// The guesses that this made fall, in the order of their jobs.
+    /// The guesses that have fallen now that their jobs are ready, in the order of their jobs.
     pub falls: Vec<Fall>,
-    /// The jobs whose guesses stand from now on.
+    /// The jobs that are ready now, and whose guesses stand.
     pub stand: Vec<usize>,
 }
 
-/// A job whose guess fell, and why (R43).
-#[derive(Clone, Copy, Debug, PartialEq, Eq)]
+/// A job whose guess fell, and for which cells it was handed other heights than they hold (R44).
 pub struct Fall {
     pub job: usize,
-    pub cause: Cause,
+    pub differences: Vec<Difference>,
 }
 
+/// A cell that holds another height than a guess was handed for it.
 #[derive(Clone, Copy, Debug, PartialEq, Eq)]
-pub enum Cause {
-    /// It looked past this job, which was settled with mark 1.
-    LookedPast(usize),
-    /// It took a value from this job's guess, which fell too.
-    TookFrom(usize),
+pub struct Difference {
+    pub cell: u8,
+    pub handed: i32,
+    pub holds: i32,
+    /// The job that wrote what it holds.
+    pub by: usize,
 }
 
 /// Tries every step of the plan.
@@ -152,7 +153,7 @@ fn settled(before: &Batch, after: &Batch, job: usize) -> Result<Settled, Contrad
     for other in job + 1..after.record().job_count.into() {
         let (old, new) = (before.job(other)?.validity, after.job(other)?.validity);
         if old != new && new == Validity::Invalid {
-            falls.push(Fall { job: other, cause: cause(after, job, other, &falls)? });
+            falls.push(Fall { job: other, differences: differences(after, other)? });
         }
         if old != new && new == Validity::Valid {
             stand.push(other);
@@ -161,18 +162,47 @@ fn settled(before: &Batch, after: &Batch, job: usize) -> Result<Settled, Contrad
     Ok(Settled { mark: after.job(job)?.wrote, changes, falls, stand })
 }
 
-/// Why the guess fell when `settled` was: it looked past that job, or took from a guess that fell with it.
-fn cause(after: &Batch, settled: usize, guess: usize, falls: &[Fall]) -> Result<Cause, Contradiction> {
-    let run = run(after, guess)?;
-    let set = u128::from(run.bypassed.high) << 64 | u128::from(run.bypassed.low);
-    if set >> settled & 1 == 1 {
-        return Ok(Cause::LookedPast(settled));
+/// The cells that hold other heights than the job's guess, which has fallen, was handed.
+fn differences(batch: &Batch, job: usize) -> Result<Vec<Difference>, Contradiction> {
+    let state = batch.job(job)?;
+    let mut differences = Vec::new();
+    for Value { cell, height: handed } in values(&state, state.handed) {
+        let holds = batch.cell(cell.into())?;
+        if holds != handed {
+            differences.push(Difference { cell, handed, holds, by: writer(batch, cell, job)? });
+        }
     }
-    let sources = run.sources.iter().filter(|source| **source > 0).map(|source| usize::from(*source) - 1);
-    let fallen = sources.into_iter().find(|source| falls.iter().any(|fall| fall.job == *source));
-    fallen
-        .map(Cause::TookFrom)
-        .ok_or_else(|| Contradiction(format!("the guess of job {guess} fell for no reason that was found")))
+    if differences.is_empty() {
+        return Err(Contradiction(format!("the guess of job {job} fell for no reason that was found")));
+    }
+    Ok(differences)
+}
+
+/// The last job before this one that wrote the cell.
+fn writer(batch: &Batch, cell: u8, job: usize) -> Result<usize, Contradiction> {
+    for earlier in (0..job).rev() {
+        if has_written(&batch.job(earlier)?, cell) {
+            return Ok(earlier);
+        }
+    }
+    Err(Contradiction(format!("cell {cell} holds what no job before job {job} wrote")))
+}
+
+/// Whether the job is settled, and its report wrote the cell (R33).
+fn has_written(state: &JobState, cell: u8) -> bool {
+    let writes = |mode| mode == Mode::Write.number() || mode == Mode::MaybeWrite.number() && state.wrote;
+    let mut accesses = state.job.accesses.iter().take(state.job.arity.into());
+    state.committed.is_settled() && accesses.any(|access| access.cell == cell && writes(access.mode))
+}
+
+impl Fall {
+    /// The jobs that wrote the other heights, each once, in their order.
+    pub fn by(&self) -> Vec<usize> {
+        let mut jobs: Vec<usize> = self.differences.iter().map(|difference| difference.by).collect();
+        jobs.sort_unstable();
+        jobs.dedup();
+        jobs
+    }
 }
 
 impl Trace {
@@ -214,11 +244,10 @@ impl Trace {
 }
 
 /// The step in which the job's guess fell, counted from 1, and why; of the events up to now.
-pub fn fall_of(events: &[Event], job: usize) -> Option<(usize, Cause)> {
+pub fn fall_of(events: &[Event], job: usize) -> Option<(usize, &Fall)> {
     events.iter().enumerate().find_map(|(place, event)| {
         let Outcome::Settled(settled) = &event.outcome else { return None };
-        let fall = settled.falls.iter().find(|fall| fall.job == job)?;
-        Some((place + 1, fall.cause))
+        Some((place + 1, settled.falls.iter().find(|fall| fall.job == job)?))
     })
 }
 
@@ -232,13 +261,34 @@ impl Plan {
 #[cfg(test)]
 mod tests {
     use super::*;
-    use crate::plan::Reading;
 
     fn thursday() -> Sound {
-        match plan::read(include_bytes!("../../../examples/thursday.plan")) {
-            Ok(Reading::Sound(sound)) => sound,
-            _ => panic!("Thursday's plan is sound"),
-        }
+        plan::sound(include_bytes!("../../../examples/thursday.plan"))
+    }
+
+    /// The steps in which guesses are judged, counted from 1: why some fall, and the jobs whose guesses stand.
+    fn judged(plan: &[u8]) -> Vec<(usize, Vec<Vec<Difference>>, Vec<usize>)> {
+        let events = of(&plan::sound(plan)).unwrap().events.into_iter().zip(1..);
+        let judged = events.filter_map(|(event, step)| match event.outcome {
+            Outcome::Settled(Settled { falls, stand, .. }) if !falls.is_empty() || !stand.is_empty() => {
+                Some((step, falls.into_iter().map(|fall| fall.differences).collect(), stand))
+            }
+            _ => None,
+        });
+        judged.collect()
+    }
+
+    /// A floor test that raises 1390 to 1400, a spike test beside a cell of this height, and a shift, guessed past both.
+    fn two_tests(beside: &str) -> Vec<u8> {
+        let cells = format!("cell value\n0 1390\n1 {beside}\n");
+        (cells + "kind p a b c\n4 1400 0 - -\n3 5 0 1 -\n2 20 0 - -\nguess\n1\nstep job\n1 2\n3 2\n0 0\n2 0\n0 1\n2 1\n").into()
+    }
+
+    /// A floor test that raises 1390 to 1400, this job on the cell, and a shift, guessed on the guess of that job. That falls, and
+    /// the job's own run takes its place.
+    fn source_thrown_away(job: &str) -> Vec<u8> {
+        let steps = "step job\n1 1\n3 1\n1 2\n3 2\n0 0\n2 0\n0 1\n2 1\n";
+        format!("cell value\n0 1390\nkind p a b c\n4 1400 0 - -\n{job} 0 - -\n2 20 0 - -\nguess\n1\n{steps}").into()
     }
 
     #[test]
@@ -254,8 +304,51 @@ mod tests {
     #[test]
     fn a_fall_has_its_step_and_its_cause() {
         let trace = of(&thursday()).unwrap();
-        assert_eq!(fall_of(&trace.events, 1), Some((4, Cause::LookedPast(0))));
-        assert_eq!(fall_of(&trace.events, 0), None);
+        let (step, fall) = fall_of(&trace.events, 1).unwrap();
+        assert_eq!((step, fall.by()), (4, vec![0]));
+        assert_eq!(fall.differences, [Difference { cell: 0, handed: 2900, holds: 1500, by: 0 }]);
+        assert!(fall_of(&trace.events, 0).is_none());
         assert_eq!((trace.fallen(), trace.refused(), trace.settled(Committed::ByOwnRun)), (1, 1, 2));
+    }
+
+    #[test]
+    fn a_guess_is_judged_once_its_job_is_ready() {
+        // In step 4 the height is another one already; in step 6 the spike test writes one more, or nothing.
+        let fallen = |holds, by| vec![(6, vec![vec![Difference { cell: 0, handed: 1390, holds, by }]], vec![])];
+        assert_eq!(judged(&two_tests("1394")), fallen(1394, 1));
+        assert_eq!(judged(&two_tests("1395")), fallen(1400, 0));
+    }
+
+    #[test]
+    fn a_guess_stands_where_what_it_looked_past_brought_the_height_back() {
+        let plan = two_tests("1390");
+        assert_eq!(judged(&plan), [(6, vec![], vec![2])]);
+        let jobs = of(&plan::sound(&plan)).unwrap().jobs;
+        assert!(jobs[..2].iter().all(|job| job.wrote));
+    }
+
+    #[test]
+    fn a_guess_that_took_from_one_thrown_away_is_judged_by_the_height() {
+        let source = (6, vec![vec![Difference { cell: 0, handed: 1390, holds: 1400, by: 0 }]], vec![]);
+        assert_eq!(judged(&source_thrown_away("1 1500")), [source.clone(), (8, vec![], vec![2])]);
+        let fallen = |handed, holds| (8, vec![vec![Difference { cell: 0, handed, holds, by: 1 }]], vec![]);
+        assert_eq!(judged(&source_thrown_away("2 10")), [source.clone(), fallen(1400, 1410)]);
+        assert_eq!(judged(&source_thrown_away("2 0")), [source, fallen(1390, 1400)]);
+    }
+
+    #[test]
+    fn a_height_that_was_written_and_is_the_former_one_has_its_writer() {
+        // The mean would be 1495, and is 1500 as its cell was.
+        let plan =
+            b"cell value\n0 1390\n1 1600\n2 1500\nkind p a b c\n4 1400 0 - -\n5 0 2 0 1\n2 20 2 - -\nguess\n1\nstep job\n\
+1 1\n3 1\n1 2\n0 0\n2 0\n0 1\n2 1\n";
+        let fallen = |cell, handed, holds, by| vec![vec![Difference { cell, handed, holds, by }]];
+        assert_eq!(judged(plan), [(5, fallen(0, 1390, 1400, 0), vec![]), (7, fallen(2, 1495, 1500, 1), vec![])]);
+    }
+
+    #[test]
+    fn jobs_that_wrote_other_heights_are_named_once() {
+        let wrote = |by| Difference { cell: 0, handed: 0, holds: 1, by };
+        assert_eq!(Fall { job: 9, differences: [3, 1, 3].map(wrote).to_vec() }.by(), [1, 3]);
     }
 }

@@ -2,14 +2,14 @@
 
 use crate::dependence::Dependences;
 use crate::plan::{self, Contradiction, StepLine};
-use crate::trace::{self, Cause, Event};
+use crate::trace::{self, Difference, Event, Fall};
 use crate::words;
-use sorghemi::{Batch, JobSet, JobState, Phase, Refusal, Step, Validity};
+use sorghemi::{Batch, JobState, Phase, Refusal, Step};
 
 /// The reason in words, beginning with a small letter and without a full stop.
 pub struct Why(pub String);
 
-/// A guess that another would have to take from, and cannot.
+/// A job that a guess would have to take from, and that has no stored guess.
 struct Lacking {
     cell: u8,
     job: usize,
@@ -90,12 +90,11 @@ fn open_before(batch: &Batch, job: usize, links: &Dependences) -> Result<Vec<usi
     Ok(open)
 }
 
-/// The guesses that a guess of the job would take from now (R41) and that are not stored, or have fallen. The library tells from
-/// which it would take, on a copy of the record in which each guess before it is stored and has not fallen.
+/// The jobs without a stored guess that a guess of the job would take from now (R41). The library tells from which it would
+/// take, on a copy of the record in which each job before it has one.
 fn lacking(batch: &Batch, job: usize) -> Result<Vec<Lacking>, Contradiction> {
     let mut record = *batch.record();
-    for (run, phase) in record.runs.iter_mut().zip(&mut record.phase).take(job) {
-        (run.sources, run.bypassed) = ([0; 4], JobSet { low: 0, high: 0 });
+    for phase in record.phase.iter_mut().take(job) {
         *phase = Phase::Stored.number();
     }
     let mut copy = Batch::from_record(record)?;
@@ -105,7 +104,7 @@ fn lacking(batch: &Batch, job: usize) -> Result<Vec<Lacking>, Contradiction> {
     for (cell, source) in plan::cells(&batch.job(job)?.job).zip(sources).filter(|(_, source)| *source > 0) {
         let job = usize::from(source) - 1;
         let state = batch.job(job)?;
-        if state.phase != Phase::Stored || state.validity == Validity::Invalid {
+        if state.phase != Phase::Stored {
             lacking.push(Lacking { cell, job, state });
         }
     }
@@ -117,7 +116,6 @@ fn lacks(job: usize, lacking: &[Lacking]) -> String {
         .iter()
         .map(|Lacking { cell, job, state }| {
             let state = match state.phase {
-                Phase::Stored => "has fallen",
                 Phase::Out => "is not reported",
                 _ if state.running => "is none: its own run is out",
                 phase => guess_state(phase),
@@ -129,23 +127,84 @@ fn lacks(job: usize, lacking: &[Lacking]) -> String {
 }
 
 fn stands(job: usize, phase: Phase) -> String {
+    let stands = format!("the guess of job {job} stands: it was handed the heights that its cells hold");
     match phase {
-        Phase::Out => format!("the guess of job {job} stands; report it, and then settle it"),
-        _ => format!("the guess of job {job} stands; settle it"),
+        Phase::Out => format!("{stands}; report it, and then settle it"),
+        _ => format!("{stands}; settle it"),
     }
 }
 
 fn fallen(job: usize, events: &[Event]) -> String {
     match trace::fall_of(events, job) {
-        Some((step, cause)) => format!("the guess of job {job} fell in step {step}: {}; start its own run", cause_of(cause)),
+        Some((step, fall)) => format!("the guess of job {job} fell in step {step}: {}; start its own run", cause_of(fall)),
         None => format!("the guess of job {job} has fallen; start its own run"),
     }
 }
 
 /// Why a guess fell, to follow "the guess fell:".
-pub fn cause_of(cause: Cause) -> String {
-    match cause {
-        Cause::LookedPast(job) => format!("it looked past job {job}, which was settled with mark 1"),
-        Cause::TookFrom(job) => format!("it took from the guess of job {job}, which fell"),
+pub fn cause_of(fall: &Fall) -> String {
+    let told: Vec<String> = fall
+        .differences
+        .iter()
+        .map(|Difference { cell, handed, holds, by }| format!("{handed} for cell {cell}, where job {by} has written {holds}"))
+        .collect();
+    format!("it was handed {}", told.join(", and "))
+}
+
+#[cfg(test)]
+mod tests {
+    use super::*;
+    use crate::trace::Outcome;
+
+    /// What the refused steps of a plan are told.
+    fn refused(plan: &[u8]) -> Vec<String> {
+        let trace = trace::of(&plan::sound(plan)).unwrap();
+        let told = trace.events.into_iter().filter_map(|event| match event.outcome {
+            Outcome::Refused(refusal, Why(why)) => Some(format!("{}: {why}", refusal.number())),
+            _ => None,
+        });
+        told.collect()
+    }
+
+    #[test]
+    fn a_guess_waits_for_stored_guesses_alone() {
+        // A mean takes from two shifts. The first one's guess is stored and fallen; the second one's is none, out, stored.
+        let plan =
+            b"cell value\n0 1390\n1 1500\n2 0\nkind p a b c\n4 1400 0 - -\n2 20 0 - -\n4 1400 1 - -\n2 20 1 - -\n5 0 2 0 1\n\
+guess\n1\nstep job\n0 0\n1 1\n1 4\n3 1\n2 0\n1 4\n1 3\n1 4\n3 3\n1 4\n";
+        let first = "cell 0 from the guess of job 1, which is not reported";
+        let second = "cell 1 from the guess of job 3, which";
+        let take = "15: a guess of job 4 would have to take";
+        let expected = [
+            format!("{take} {first} and {second} was never started"),
+            format!("{take} {second} was never started"),
+            format!("{take} {second} is not reported"),
+        ];
+        assert_eq!(refused(plan), expected);
+    }
+
+    #[test]
+    fn an_own_run_in_a_guess_s_place_is_told() {
+        let plan = b"cell value\n0 1390\nkind p a b c\n4 1400 0 - -\n2 20 0 - -\n2 5 0 - -\nguess\n1\nstep job\n\
+1 1\n3 1\n0 0\n2 0\n0 1\n1 2\n";
+        let expected =
+            "15: a guess of job 2 would have to take cell 0 from the guess of job 1, which is none: its own run is out";
+        assert_eq!(refused(plan), [expected]);
+    }
+
+    #[test]
+    fn a_guess_that_stands_is_to_be_settled() {
+        let plan = b"cell value\n0 1500\nkind p a b c\n4 1400 0 - -\n2 20 0 - -\nguess\n1\nstep job\n\
+1 1\n0 0\n2 0\n0 1\n3 1\n0 1\n";
+        let stands = "17: the guess of job 1 stands: it was handed the heights that its cells hold;";
+        assert_eq!(refused(plan), ["report it, and then settle it", "settle it"].map(|end| format!("{stands} {end}")));
+    }
+
+    #[test]
+    fn all_cells_that_hold_other_heights_are_told() {
+        let plan = b"cell value\n0 1390\n1 2900\n2 1500\n3 0\nkind p a b c\n4 1400 0 - -\n3 1000 1 2 -\n5 0 3 0 1\nguess\n1\n\
+step job\n0 0\n0 1\n1 2\n3 2\n2 0\n2 1\n4 2\n";
+        let cells = "1390 for cell 0, where job 0 has written 1400, and 2900 for cell 1, where job 1 has written 1500";
+        assert_eq!(refused(plan), [format!("18: the guess of job 2 fell in step 6: it was handed {cells}; start its own run")]);
     }
 }

@@ -1,6 +1,6 @@
 //! What a run leaves in each job's row.
 
-use crate::trace::{Cause, Event, Outcome, Settled, Trace};
+use crate::trace::{Event, Outcome, Settled, Trace};
 use crate::words;
 use sorghemi::{Committed, JobState, Step};
 
@@ -36,8 +36,8 @@ pub struct Row {
 pub struct Guess {
     pub from: usize,
     pub reported: Option<usize>,
-    /// When it fell, and why.
-    pub fell: Option<(usize, Cause)>,
+    /// When it fell, and which jobs wrote other heights than it was handed.
+    pub fell: Option<(usize, Vec<usize>)>,
     /// When it was settled or thrown away.
     pub end: Option<usize>,
     pub fate: Fate,
@@ -112,17 +112,17 @@ fn settle(row: &mut Row, step: usize, by: Step, settled: &Settled) {
 fn fall(rows: &mut Rows, step: usize, settled: &Settled) {
     for fall in &settled.falls {
         if let Some(guess) = rows.jobs.get_mut(fall.job).and_then(|row| row.guess.as_mut()) {
-            guess.fell = Some((step, fall.cause));
+            guess.fell = Some((step, fall.by()));
             guess.fate = Fate::Lost;
         }
     }
 }
 
 impl Row {
-    /// When its guess fell, and which job that came from.
+    /// When its guess fell, and which job that came from; of several the first.
     pub fn fell(&self) -> Option<(usize, usize)> {
-        let (step, Cause::LookedPast(by) | Cause::TookFrom(by)) = self.guess.as_ref()?.fell?;
-        Some((step, by))
+        let (step, by) = self.guess.as_ref()?.fell.as_ref()?;
+        Some((*step, *by.first()?))
     }
 }
 
@@ -145,18 +145,11 @@ fn end(state: &JobState) -> String {
 }
 
 fn guess_end(guess: Option<&Guess>) -> String {
-    match guess.map(|guess| (guess.fate, guess.fell)) {
+    match guess.map(|guess| (guess.fate, &guess.fell)) {
         None => String::new(),
         Some((Fate::Kept, _)) => "kept".to_owned(),
-        Some((_, Some((step, cause)))) => format!("fell in step {} {}", step + 1, fell_by(cause)),
+        Some((_, Some((step, by)))) => format!("fell in step {} by {}", step + 1, words::jobs(by)),
         Some(_) => "open".to_owned(),
-    }
-}
-
-fn fell_by(cause: Cause) -> String {
-    match cause {
-        Cause::LookedPast(job) => format!("by job {job}"),
-        Cause::TookFrom(job) => format!("with that of job {job}"),
     }
 }
 
@@ -167,8 +160,8 @@ fn told(row: &Row, state: &JobState) -> String {
         if let Some(step) = guess.reported {
             text += &format!(", reported in step {}", step + 1);
         }
-        if let Some((step, cause)) = guess.fell {
-            text += &format!(", fallen in step {} {}", step + 1, fell_by(cause));
+        if let Some((step, by)) = &guess.fell {
+            text += &format!(", fallen in step {} by {}", step + 1, words::jobs(by));
         }
         text += "; ";
     }
@@ -180,4 +173,25 @@ fn told(row: &Row, state: &JobState) -> String {
         text += &format!(", in step {}", step + 1);
     }
     text + "."
+}
+
+#[cfg(test)]
+mod tests {
+    use super::*;
+    use crate::{plan, trace};
+
+    #[test]
+    fn a_fall_is_shown_with_the_jobs_that_wrote() {
+        // The mean is guessed past two floor tests. The second is settled last, and the line comes from the first.
+        let plan = |second| {
+            let jobs = format!("4 1400 0 - -\n4 {second} 1 - -\n5 0 2 0 1\n");
+            format!("cell value\n0 1390\n1 1390\n2 0\nkind p a b c\n{jobs}guess\n1\nstep job\n0 0\n0 1\n1 2\n2 0\n2 1\n")
+        };
+        for (second, by) in [("1400", "jobs 0 and 1"), ("1300", "job 0")] {
+            let rows = of(&trace::of(&plan::sound(plan(second).as_bytes())).unwrap()).jobs;
+            assert_eq!((rows[2].fell(), rows[1].crossed.as_slice()), (Some((4, 0)), [4].as_slice()));
+            assert_eq!(rows[2].guess_end, format!("fell in step 5 by {by}"));
+            assert!(rows[2].told.contains(&format!(", fallen in step 5 by {by}; ")), "{}", rows[2].told);
+        }
+    }
 }
