@@ -284,8 +284,8 @@ mod tests {
         (cells + "kind p a b c\n4 1400 0 - -\n3 5 0 1 -\n2 20 0 - -\nguess\n1\nstep job\n1 2\n3 2\n0 0\n2 0\n0 1\n2 1\n").into()
     }
 
-    /// A floor test that raises 1390 to 1400, this job on the cell, and a shift, guessed on the guess of that job. That falls, and
-    /// the job's own run takes its place.
+    /// A floor test that raises 1390 to 1400, this job on the cell, and a shift, guessed on the guess of that job. That guess
+    /// falls, and the job's own run takes its place.
     fn source_thrown_away(job: &str) -> Vec<u8> {
         let steps = "step job\n1 1\n3 1\n1 2\n3 2\n0 0\n2 0\n0 1\n2 1\n";
         format!("cell value\n0 1390\nkind p a b c\n4 1400 0 - -\n{job} 0 - -\n2 20 0 - -\nguess\n1\n{steps}").into()
