@@ -94,29 +94,38 @@ mod tests {
 
     const DATA: &[u8] = b"cell value\n0 2900\n1 1500\nkind p a b c\n3 1000 0 1 -\n2 20 0 - -\n4 1400 1 - -\nguess\n1\n";
 
-    fn with(workers: usize) -> String {
-        let (Reading::Sound(sound), text) = plan::read_without_steps(DATA).unwrap() else { panic!("sound") };
+    fn with(data: &[u8], workers: usize) -> String {
+        let (Reading::Sound(sound), text) = plan::read_without_steps(data).unwrap() else { panic!("sound") };
         let whole = planned(&text, &sound.plan, workers).unwrap();
         String::from_utf8(whole).unwrap()
     }
 
-    fn steps_with(workers: usize) -> String {
-        with(workers).rsplit_once("step job\n").unwrap().1.to_owned()
+    fn steps_with(data: &[u8], workers: usize) -> String {
+        with(data, workers).rsplit_once("step job\n").unwrap().1.to_owned()
     }
 
     #[test]
     fn one_worker_guesses_nothing() {
-        assert_eq!(steps_with(1), "0 0\n2 0\n0 1\n2 1\n0 2\n2 2\n");
+        assert_eq!(steps_with(DATA, 1), "0 0\n2 0\n0 1\n2 1\n0 2\n2 2\n");
     }
 
     #[test]
     fn a_fallen_guess_is_dropped() {
         // The spike test is out, both others wait for it and are guessed; it writes, so the shift's guess falls unreported.
-        assert_eq!(steps_with(9), "0 0\n1 1\n1 2\n2 0\n0 1\n3 2\n4 2\n2 1\n");
+        assert_eq!(steps_with(DATA, 9), "0 0\n1 1\n1 2\n2 0\n0 1\n3 2\n4 2\n2 1\n");
+    }
+
+    #[test]
+    fn a_worker_with_a_fallen_guess_is_free_at_once() {
+        // Settling the pair makes the shift's guess fall, and the second mean ready, whose chain is longer. The third worker has
+        // the last mean; so the shift's own run can be started beside both only by the worker that had its guess.
+        let data = b"cell value\n0 1500\n1 1500\n2 0\n3 0\n4 1390\n5 0\nkind p a b c\n\
+5 0 2 0 1\n6 0 0 4 -\n2 20 0 - -\n5 0 3 2 4\n2 1 3 - -\n5 0 5 2 1\nguess\n1\n";
+        assert_eq!(steps_with(data, 3), "0 0\n1 1\n1 2\n2 0\n0 5\n3 1\n4 1\n0 3\n0 2\n2 5\n2 3\n0 4\n2 2\n2 4\n");
     }
 
     #[test]
     fn the_data_stays() {
-        assert!(with(2).as_bytes().starts_with(DATA));
+        assert!(with(DATA, 2).as_bytes().starts_with(DATA));
     }
 }

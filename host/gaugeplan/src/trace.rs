@@ -178,7 +178,7 @@ fn differences(batch: &Batch, job: usize) -> Result<Vec<Difference>, Contradicti
     Ok(differences)
 }
 
-/// The last job before this one that wrote the cell.
+/// The last job that wrote a cell of this one. It is ready, so those before it that may write the cell are settled.
 fn writer(batch: &Batch, cell: u8, job: usize) -> Result<usize, Contradiction> {
     for earlier in (0..job).rev() {
         if has_written(&batch.job(earlier)?, cell) {
@@ -188,11 +188,11 @@ fn writer(batch: &Batch, cell: u8, job: usize) -> Result<usize, Contradiction> {
     Err(Contradiction(format!("cell {cell} holds what no job before job {job} wrote")))
 }
 
-/// Whether the job is settled, and its report wrote the cell (R33).
+/// Whether the report that the job was settled by wrote the cell (R33).
 fn has_written(state: &JobState, cell: u8) -> bool {
     let writes = |mode| mode == Mode::Write.number() || mode == Mode::MaybeWrite.number() && state.wrote;
     let mut accesses = state.job.accesses.iter().take(state.job.arity.into());
-    state.committed.is_settled() && accesses.any(|access| access.cell == cell && writes(access.mode))
+    accesses.any(|access| access.cell == cell && writes(access.mode))
 }
 
 impl Fall {
