@@ -1,9 +1,9 @@
-//! Guesses that are kept for the heights that they were handed (R43 to R45, R115), and none lost to that rule (R185). Batches are
-//! worked by random lists of calls (`second_hand::lists`) in three hands at once, most of them with few heights, so that reports
-//! often give what was there. After every call (with 20 jobs or more after one in twenty) each guess is held against both of the
-//! second hand's engines and the ledger (`second_hand::ledger`), and the former rule is worked out beside it
-//! (`second_hand::former`). BATCHES=COUNT sets how many lists, SEED=NUMBER which; it prints what was met, and how many guesses the
-//! former rule would have kept (`cargo test --test kept -- --nocapture`).
+//! Guesses that are kept for the heights that they were handed (R43 to R45, R115), none lost to that rule (R185), and judgements
+//! that stay (R186). Batches are worked by random lists of calls (`second_hand::lists`) in three hands at once, most of them with
+//! few heights, so that reports often give what was there. After every call (with 20 jobs or more after one in twenty) each guess
+//! is held against both of the second hand's engines and the ledger (`second_hand::ledger`), and the former rule is worked out
+//! beside it (`second_hand::former`). BATCHES=COUNT sets how many lists, SEED=NUMBER which; it prints what was met, and how many
+//! guesses the former rule would have kept (`cargo test --test kept -- --nocapture`).
 
 mod hands;
 mod met;
@@ -24,12 +24,13 @@ use sorghemi::Batch;
 /// How a guess is judged, by R45's numbers. Each has to come up.
 const JUDGED: [&str; 4] = ["none to judge", "not yet to be judged", "stands", "has fallen"];
 
-/// How often guesses were judged so; how often R185 applied; what was met of guesses; and how many were kept, by the rules and by
+/// How often guesses were judged so; how often R185 and R186 applied; what was met of guesses; and how many were kept, by the rules and by
 /// the former rule: by the same calls, and by the chooser in how many batches.
 #[derive(Default)]
 struct Met {
     judged: [u64; JUDGED.len()],
     applied: u64,
+    stayed: u64,
     guesses: [u64; MET.len()],
     kept: [u64; 2],
     kept_by_chooser: [u64; 2],
@@ -37,8 +38,9 @@ struct Met {
 }
 
 impl Met {
-    /// The guess of each job, as all hands, the wrapper and the ledger judge it, and R185.
-    fn judge(&mut self, Morning { hands, ledger }: &Morning) {
+    /// The guess of each job, as all hands, the wrapper and the ledger judge it, R185, and R186 by what was told at the last look.
+    fn judge(&mut self, Morning { hands, ledger }: &Morning, told: &mut Vec<u8>) {
+        told.resize(ledger.jobs.len(), 0);
         let batch = Batch::from_record(hands.both.ours).unwrap();
         let falls = falls(&hands.third);
         for (job, due) in ledger.judged().into_iter().enumerate() {
@@ -47,6 +49,11 @@ impl Met {
             assert_eq!(hands.third.ask_guess(job as u32), Ok(due.into()), "R45: job {job} of {ledger:?}");
             assert_eq!(batch.job(job).unwrap().validity as u8, due);
             add(&mut self.judged, [0, 1, 2, 3].map(|number| number == validity));
+            let before = std::mem::replace(&mut told[job], validity);
+            if before >= 2 {
+                assert!(validity == before || validity == 0, "R186: job {job} of {ledger:?}, {before} before");
+                self.stayed += 1;
+            }
             let line = &ledger.jobs[job];
             if line.guess.is_some() && line.counted.is_none() && ledger.is_ready(job) && !falls[job].at_all() {
                 assert_eq!(validity, 2, "R185: job {job} of {ledger:?}");
@@ -60,6 +67,7 @@ impl Met {
         let mut morning = Morning::open(&manner.heights);
         let mut former = morning.hands.third.clone().under_former_rule();
         let mut watch = Watch::of(&morning.hands.third);
+        let mut told = Vec::new();
         for _ in 0..manner.calls() {
             let call = manner.call(dice, morning.record());
             let answer = morning.make(&call);
@@ -69,7 +77,7 @@ impl Met {
                 _ => {}
             }
             if worth_a_look(dice, morning.record()) {
-                self.judge(&morning);
+                self.judge(&morning, &mut told);
             }
         }
         sum(&mut self.guesses, watch.met);
@@ -83,7 +91,7 @@ impl Met {
     fn print(&self) {
         println!("Guesses asked for on the way:");
         print(&JUDGED, &self.judged);
-        println!("R185 applied {} times. Of a guess was met, at most once of each:", self.applied);
+        println!("R185 applied {} times, R186 {} times. Of a guess was met, at most once of each:", self.applied, self.stayed);
         print(&MET, &self.guesses);
         println!("Guesses kept by the rules; by the former rule:");
         let [now, former] = self.kept;
@@ -111,5 +119,5 @@ fn batches() {
     met.print();
     assert!(met.judged.iter().all(|&times| times > 0), "no guess was judged so: {:?}", met.judged);
     assert!(met.guesses.iter().all(|&times| times > 0), "something never came up: {:?}", met.guesses);
-    assert!(met.applied > 0 && met.guesses[KEPT_NOW].iter().sum::<u64>() > count / 10, "{:?}", met.guesses);
+    assert!(met.applied > 0 && met.stayed > 0 && met.guesses[KEPT_NOW].iter().sum::<u64>() > count / 10, "{:?}", met.guesses);
 }
