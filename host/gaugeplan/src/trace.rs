@@ -4,7 +4,7 @@
 use crate::dependence::{self, Dependences};
 use crate::plan::{self, Contradiction, Plan, Sound, StepLine};
 use crate::why::{self, Why};
-use sorghemi::{Batch, Committed, JobState, Mode, Phase, Refusal, Report, Step, Tally, Validity};
+use sorghemi::{Batch, Committed, JobState, Phase, Refusal, Report, Step, Tally, Validity};
 use std::fmt::Write;
 
 /// The whole run of a plan.
@@ -60,13 +60,16 @@ pub struct Started {
 
 pub struct Settled {
     pub mark: bool,
-    /// The cells whose heights are other ones now: the cell, before, after.
-    pub changes: Vec<(usize, i32, i32)>,
+    /// The cells whose heights are other ones now.
+    pub changes: Vec<Change>,
     /// The guesses that have fallen now that their jobs are ready, in the order of their jobs.
     pub falls: Vec<Fall>,
     /// The jobs that are ready now, and whose guesses stand.
     pub stand: Vec<usize>,
 }
+
+/// A cell, its height before and after.
+pub type Change = (usize, i32, i32);
 
 /// A job whose guess fell, and for which cells it was handed other heights than they hold (R44).
 pub struct Fall {
@@ -119,7 +122,7 @@ fn tried(batch: &mut Batch, line: StepLine, links: &Dependences, events: &[Event
     Ok(match line.step {
         Step::StartOwn | Step::StartSpeculation => Outcome::Started(started(&before, batch, line.job)?),
         Step::ReportSpeculation => Outcome::Stored(batch.job(line.job)?, run(batch, line.job)?.wrote == 1),
-        Step::ReportOwn | Step::Commit => Outcome::Settled(settled(&before, batch, line.job)?),
+        Step::ReportOwn | Step::Commit => Outcome::Settled(settled(&before, batch, line.job, events)?),
     })
 }
 
@@ -145,15 +148,18 @@ fn started(before: &Batch, after: &Batch, job: usize) -> Result<Started, Contrad
     })
 }
 
-fn settled(before: &Batch, after: &Batch, job: usize) -> Result<Settled, Contradiction> {
-    let heights = before.cells().into_iter().zip(after.cells());
-    let changes = heights.enumerate().filter(|(_, (old, new))| old != new).map(|(cell, (old, new))| (cell, old, new)).collect();
+fn settled(before: &Batch, after: &Batch, job: usize, events: &[Event]) -> Result<Settled, Contradiction> {
+    let heights = before.cells().into_iter().zip(after.cells()).enumerate();
+    let changes: Vec<Change> =
+        heights.filter(|(_, (old, new))| old != new).map(|(cell, (old, new))| (cell, old, new)).collect();
+    let mut course = course(events);
+    course.push((job, &changes));
     let mut falls = Vec::new();
     let mut stand = Vec::new();
     for other in job + 1..after.record().job_count.into() {
         let (old, new) = (before.job(other)?.validity, after.job(other)?.validity);
         if old != new && new == Validity::Invalid {
-            falls.push(Fall { job: other, differences: differences(after, other)? });
+            falls.push(Fall { job: other, differences: differences(after, other, &course)? });
         }
         if old != new && new == Validity::Valid {
             stand.push(other);
@@ -162,14 +168,23 @@ fn settled(before: &Batch, after: &Batch, job: usize) -> Result<Settled, Contrad
     Ok(Settled { mark: after.job(job)?.wrote, changes, falls, stand })
 }
 
+/// The jobs that were settled up to now, in turn, with what each changed.
+fn course(events: &[Event]) -> Vec<(usize, &[Change])> {
+    let settled = events.iter().filter_map(|event| match &event.outcome {
+        Outcome::Settled(settled) => Some((event.line.job, settled.changes.as_slice())),
+        _ => None,
+    });
+    settled.collect()
+}
+
 /// The cells that hold other heights than the job's guess, which has fallen, was handed.
-fn differences(batch: &Batch, job: usize) -> Result<Vec<Difference>, Contradiction> {
+fn differences(batch: &Batch, job: usize, course: &[(usize, &[Change])]) -> Result<Vec<Difference>, Contradiction> {
     let state = batch.job(job)?;
     let mut differences = Vec::new();
-    for Value { cell, height: handed } in values(&state, state.handed) {
+    for (Value { cell, height: handed }, source) in values(&state, state.handed).into_iter().zip(run(batch, job)?.sources) {
         let holds = batch.cell(cell.into())?;
         if holds != handed {
-            differences.push(Difference { cell, handed, holds, by: writer(batch, cell, job)? });
+            differences.push(Difference { cell, handed, holds, by: writer(course, cell, source)? });
         }
     }
     if differences.is_empty() {
@@ -178,21 +193,14 @@ fn differences(batch: &Batch, job: usize) -> Result<Vec<Difference>, Contradicti
     Ok(differences)
 }
 
-/// The last job that wrote a cell of this one. It is ready, so those before it that may write the cell are settled.
-fn writer(batch: &Batch, cell: u8, job: usize) -> Result<usize, Contradiction> {
-    for earlier in (0..job).rev() {
-        if has_written(&batch.job(earlier)?, cell) {
-            return Ok(earlier);
-        }
-    }
-    Err(Contradiction(format!("cell {cell} holds what no job before job {job} wrote")))
-}
-
-/// Whether the report that the job was settled by wrote the cell (R33).
-fn has_written(state: &JobState, cell: u8) -> bool {
-    let writes = |mode| mode == Mode::Write.number() || mode == Mode::MaybeWrite.number() && state.wrote;
-    let mut accesses = state.job.accesses.iter().take(state.job.arity.into());
-    accesses.any(|access| access.cell == cell && writes(access.mode))
+/// The last job that changed the cell; or the one whose guess the value was taken from, which wrote the cell too, where none
+/// has changed it since.
+fn writer(course: &[(usize, &[Change])], cell: u8, source: u8) -> Result<usize, Contradiction> {
+    let wrote = |job: usize, changes: &[Change]| {
+        usize::from(source) == job + 1 || changes.iter().any(|(changed, ..)| *changed == cell.into())
+    };
+    let last = course.iter().rev().find(|(job, changes)| wrote(*job, changes));
+    last.map(|(job, _)| *job).ok_or_else(|| Contradiction(format!("cell {cell} holds what no job wrote")))
 }
 
 impl Fall {
@@ -278,10 +286,11 @@ mod tests {
         judged.collect()
     }
 
-    /// A floor test that raises 1390 to 1400, a spike test beside a cell of this height, and a shift, guessed past both.
-    fn two_tests(beside: &str) -> Vec<u8> {
-        let cells = format!("cell value\n0 1390\n1 {beside}\n");
-        (cells + "kind p a b c\n4 1400 0 - -\n3 5 0 1 -\n2 20 0 - -\nguess\n1\nstep job\n1 2\n3 2\n0 0\n2 0\n0 1\n2 1\n").into()
+    /// A floor test that raises 1390 to 1400, a spike test beside a cell, and a shift that is guessed past both.
+    fn two_tests(limit: i32, beside: i32) -> Vec<u8> {
+        let jobs = format!("4 1400 0 - -\n3 {limit} 0 1 -\n2 20 0 - -\n");
+        let steps = "step job\n1 2\n3 2\n0 0\n2 0\n0 1\n2 1\n";
+        format!("cell value\n0 1390\n1 {beside}\nkind p a b c\n{jobs}guess\n1\n{steps}").into()
     }
 
     /// A floor test that raises 1390 to 1400, this job on the cell, and a shift, guessed on the guess of that job. That guess
@@ -313,18 +322,23 @@ mod tests {
 
     #[test]
     fn a_guess_is_judged_once_its_job_is_ready() {
-        // In step 4 the height is another one already; in step 6 the spike test writes one more, or nothing.
+        // In step 4 the height is another one already; in step 6 the spike test writes one more, nothing, or the same again.
         let fallen = |holds, by| vec![(6, vec![vec![Difference { cell: 0, handed: 1390, holds, by }]], vec![])];
-        assert_eq!(judged(&two_tests("1394")), fallen(1394, 1));
-        assert_eq!(judged(&two_tests("1395")), fallen(1400, 0));
+        assert_eq!(judged(&two_tests(5, 1394)), fallen(1394, 1));
+        assert_eq!(judged(&two_tests(5, 1395)), fallen(1400, 0));
+        assert_eq!(judged(&two_tests(-1, 1400)), fallen(1400, 0));
     }
 
     #[test]
-    fn a_guess_stands_where_what_it_looked_past_brought_the_height_back() {
-        let plan = two_tests("1390");
-        assert_eq!(judged(&plan), [(6, vec![], vec![2])]);
-        let jobs = of(&plan::sound(&plan)).unwrap().jobs;
-        assert!(jobs[..2].iter().all(|job| job.wrote));
+    fn a_guess_stands_where_the_height_is_what_it_was() {
+        // Both tests write, and the second brings the height back.
+        let back = two_tests(5, 1390);
+        // A spike test of a limit below 0 writes always, here the height that is there.
+        let same = b"cell value\n0 1500\n1 1500\nkind p a b c\n3 -1 0 1 -\n2 20 0 - -\nguess\n1\nstep job\n1 1\n0 0\n2 0\n";
+        for (plan, step, guess) in [(back.as_slice(), 6, 2), (same, 3, 1)] {
+            assert_eq!(judged(plan), [(step, vec![], vec![guess])]);
+            assert!(of(&plan::sound(plan)).unwrap().jobs[..guess].iter().all(|job| job.wrote));
+        }
     }
 
     #[test]
