@@ -252,7 +252,7 @@ const HANDED: [&str; 9] = [
     "not yet to be judged, handed another height",
     "the job settled, handed what is there",
     "the job settled, handed another height",
-    "stands, another value in a place not in use",
+    "stands, not 0 in a place not in use",
     "stands, the own run out too",
     "fallen, the first of four heights alone being wrong",
     "fallen, the last of four heights alone being wrong",
@@ -263,16 +263,16 @@ const HANDED: [&str; 9] = [
 fn handed_met(answer: &JobAnswer, present: [i32; 4]) -> [bool; HANDED.len()] {
     let live = answer.phase == 1 || answer.phase == 2;
     let (arity, settled) = (answer.job.arity as usize, answer.committed != 0);
-    let wrong: Vec<usize> = (0..4).filter(|&place| answer.handed[place] != present[place]).collect();
-    let right = wrong.iter().all(|&place| place >= arity);
-    let highest = |&place: &usize| place < arity && answer.handed[place] ^ present[place] == i32::MIN;
+    let wrong: Vec<usize> = (0..arity).filter(|&place| answer.handed[place] != present[place]).collect();
+    let right = wrong.is_empty();
+    let highest = |&place: &usize| answer.handed[place] ^ present[place] == i32::MIN;
     let judged = |number: u8| live && answer.validity == number;
     [
         judged(1) && right,
         judged(1) && !right,
         live && settled && right,
         live && settled && !right,
-        judged(2) && !wrong.is_empty(),
+        judged(2) && answer.handed[arity..] != [0; 4][arity..],
         judged(2) && answer.running == 1,
         judged(3) && arity == 4 && wrong == [0],
         judged(3) && arity == 4 && wrong == [3],
