@@ -105,8 +105,8 @@ mod tests {
         for jobs in [16, 32, 64, 128] {
             let drive = driven::<Plain>(&Batch::of(jobs));
             assert!(drive.started * 2 > jobs, "{jobs} jobs: {}", drive.started);
-            assert!(drive.kept * 5 > drive.started * 2);
-            assert!(drive.discarded() * 5 > drive.started * 2);
+            assert!(drive.kept * 4 > drive.started, "{jobs} jobs: {} of {}", drive.kept, drive.started);
+            assert!(drive.discarded() * 4 > drive.started, "{jobs} jobs");
         }
     }
 }
