@@ -2,7 +2,7 @@
 use Prim.Native.Nat.{ℕ, _+_, _<_, _≤_}
 use native.Mathlib.Omega.{arith}
 use native.Mathlib.Numerals.{add-one}
-use mathlib.Core.Bool.{Bool, false, cond, not, _&&_, _||_}
+use mathlib.Core.Bool.{Bool, true, false, cond, not, _&&_, _||_}
 use mathlib.Core.List.{List, [], _∷_}
 use mathlib.Core.Path.{_≡_, refl, sym, _∙_}
 use lib.Dec.{eqb}
@@ -21,8 +21,10 @@ use Rattle.rules.specs.Call.{Call, startOwn, startSpeculation, commit}
 use Rattle.rules.specs.Refusals.{stepTests, refusalOf}
 use Rattle.engine.specs.declared.Batch.{Batch}
 use Rattle.engine.specs.declared.chooser.Pick.{Pick}
-use Rattle.engine.specs.Record.{snapshotOf}
+use Rattle.engine.specs.Record.{committedAt, snapshotOf}
 use Rattle.engine.specs.StepLaws.{ready-is}
+use Rattle.engine.specs.Speculation.{isDue}
+use Rattle.engine.specs.InvalidRun.{runStale, invalid-is}
 use Rattle.engine.specs.Chooser.{allows, better, pickBelow}
 
 -- The tests of each step after those that every step makes.
@@ -63,11 +65,10 @@ stepPasses step on how running phase ready invalid missing =
     (cond (eqb step 1) (speculationPasses on how running phase ready missing) (ownPasses how running phase ready invalid))
 
 -- A sealed record with what the passes say of it: what a pick among its jobs starts from.
-pub record Surveyed (b : Batch) (readies invalid : List Bool) (chains : List ℕ) : Type 0 where
+pub record Surveyed (b : Batch) (readies : List Bool) (chains : List ℕ) : Type 0 where
   pub closed : eqb (b .sealed) 0 ≡ false
   pub few : b .«job_count» ≤ 128
   pub readies-are : readies ≡ column 128 (b .«job_count») (ready (b .jobs) (b .committed)) false
-  pub invalid-are : invalid ≡ column 128 (b .«job_count») (isInvalid (snapshotOf b)) false
   pub chains-are : chains ≡ column 128 (b .«job_count») (chainLengthAt (b .jobs) (b .«job_count»)) 0
 
 -- The pick among the jobs before j.
@@ -83,7 +84,32 @@ pick-more : (n : ℕ) (allowed : ℕ → Bool) (chain : ℕ → ℕ)
 unfolding pickBelow
 pick-more n allowed chain = rw add-one
 
-module _ (b : Batch) (readies invalid : List Bool) (chains : List ℕ) (survey : Surveyed b readies invalid chains) (j : ℕ)
+-- A settled job is refused with 13, whatever its guess was handed.
+
+commit-due : (settled unstored now live stale : Bool)
+    → eqb (firstOf (when (settled || unstored) 13 ∷ when (not now) 15 ∷ when ((not settled && (now && live)) && stale) 18 ∷ [])) 0
+    ≡ eqb (firstOf (when (settled || unstored) 13 ∷ when (not now) 15 ∷ when ((now && live) && stale) 18 ∷ [])) 0
+unfolding firstOf
+commit-due true unstored now live stale = refl
+commit-due false unstored now live stale = refl
+
+own-due : (settled running now live stale : Bool)
+    → eqb
+    (firstOf
+    (when (settled || running) 13
+    ∷ when (not now) 15
+    ∷ when ((now && live) && not ((not settled && (now && live)) && stale)) 17
+    ∷ []))
+    0
+    ≡ eqb
+    (firstOf
+    (when (settled || running) 13 ∷ when (not now) 15 ∷ when ((now && live) && not ((now && live) && stale)) 17 ∷ []))
+    0
+unfolding firstOf
+own-due true running now live stale = refl
+own-due false running now live stale = refl
+
+module _ (b : Batch) (readies : List Bool) (chains : List ℕ) (survey : Surveyed b readies chains) (j : ℕ)
     (held : j < b .«job_count») where
   -- What the columns say of job j.
 
@@ -93,10 +119,12 @@ module _ (b : Batch) (readies invalid : List Bool) (chains : List ℕ) (survey :
       (column-at 128 (b .«job_count») j (ready (b .jobs) (b .committed)) false false held (omega (arith, survey .few))
       ∙ sym (ready-is b j))
 
-  invalid-at : getD invalid j false ≡ isInvalid (snapshotOf b) j
-  invalid-at =
-      rw (survey .invalid-are)
-      (column-at 128 (b .«job_count») j (isInvalid (snapshotOf b)) false false held (omega (arith, survey .few)))
+  invalid-at : ((isReady (snapshotOf b) j && isLive (getD (b .phase) j 0)) && runStale b j) ≡ isInvalid (snapshotOf b) j
+  invalid-at = invalid-is b j (ready-is b j) refl
+
+  -- Whether the guess of job j is invalid, as the code finds out where it may decide.
+  abbrev pub dueStale : Bool
+  dueStale = isDue (getD (b .committed) j 0) (getD readies j false) (getD (b .phase) j 0) && runStale b j
 
   pub chain-at : getD chains j 0 ≡ chainLengthAt (b .jobs) (b .«job_count») j
   chain-at =
@@ -108,15 +136,19 @@ module _ (b : Batch) (readies invalid : List Bool) (chains : List ℕ) (survey :
   unfolding firstOf
   held-then rest = rw (survey .closed, lt-leb (b .«job_count») j held)
 
-  commit-is : commitPasses (getD (b .committed) j 0) (getD (b .phase) j 0) (getD readies j false) (getD invalid j false)
+  commit-is : commitPasses (getD (b .committed) j 0) (getD (b .phase) j 0) (getD readies j false) dueStale
       ≡ allows (snapshotOf b) (commit j)
   unfolding refusalOf
-  commit-is = rw (ready-at, invalid-at, held-then _)
+  commit-is =
+      rw (ready-at, held-then _, ← invalid-at)
+      (commit-due (committedAt b j) (not (isStored (getD (b .phase) j 0))) (isReady (snapshotOf b) j) (isLive (getD (b .phase) j 0)) (runStale b j))
 
-  own-is : ownPasses (getD (b .committed) j 0) (getD (b .running) j 0) (getD (b .phase) j 0) (getD readies j false) (getD invalid j false)
+  own-is : ownPasses (getD (b .committed) j 0) (getD (b .running) j 0) (getD (b .phase) j 0) (getD readies j false) dueStale
       ≡ allows (snapshotOf b) (startOwn j)
   unfolding refusalOf
-  own-is = rw (ready-at, invalid-at, held-then _, judged-else (snapshotOf b) j)
+  own-is =
+      rw (ready-at, held-then _, judged-else (snapshotOf b) j, ← invalid-at)
+      (own-due (committedAt b j) (not (eqb (getD (b .running) j 0) 0)) (isReady (snapshotOf b) j) (isLive (getD (b .phase) j 0)) (runStale b j))
 
   speculation-is : speculationPasses (snapshotOf b .speculating) (getD (b .committed) j 0) (getD (b .running) j 0) (getD (b .phase) j 0)
       (getD readies j false) (sourceMissing (snapshotOf b) j)
@@ -125,18 +157,18 @@ module _ (b : Batch) (readies invalid : List Bool) (chains : List ℕ) (survey :
   speculation-is = rw (ready-at, held-then _)
 
   -- So the code's test, whose result is `allowed`, is the rule's. Only step 1 reads `missing`.
-  pub step-is : (step : ℕ) {missing allowed : Bool} → (step ≡ 1 → missing ≡ sourceMissing (snapshotOf b) j)
+  pub step-is : (step : ℕ) {invalid missing allowed : Bool} → invalid ≡ dueStale → (step ≡ 1 → missing ≡ sourceMissing (snapshotOf b) j)
       → allowed
       ≡ stepPasses step (snapshotOf b .speculating) (getD (b .committed) j 0) (getD (b .running) j 0) (getD (b .phase) j 0)
-      (getD readies j false) (getD invalid j false) missing
+      (getD readies j false) invalid missing
       → allowed ≡ allows (snapshotOf b) (stepCall step j)
-  step-is step m e =
+  step-is step i m e =
       if-or (eqb step 4)
-      (λ t. rw t (rw t at e ∙ commit-is))
+      (λ t. rw t (rw (t, i) at e ∙ commit-is))
       (λ f.
       if-or (eqb step 1)
       (λ t. rw (f, t) (rw (f, t, m (eqb-true step 1 t)) at e ∙ speculation-is))
-      (λ g. rw (f, g) (rw (f, g) at e ∙ own-is)))
+      (λ g. rw (f, g) (rw (f, g, i) at e ∙ own-is)))
 
   -- The turn of job j.
   pub pick-step : (step : ℕ → Call) (pick next : Pick) (allowed : Bool) → pick ≡ pickBefore b step j

@@ -12,7 +12,7 @@ pub mod AskLaws
 pub mod StepLaws
 pub mod SourceLimit
 pub mod Speculation
-pub mod InvalidPass
+pub mod InvalidRun
 pub mod Chooser
 pub mod ChooserPass
 pub mod ChooserLaws

@@ -5,6 +5,7 @@ ghost use Rattle.engine.specs.Chooser.{better, pickFor, refused, named, 
 ghost use Rattle.engine.specs.ChooserPass.{Surveyed, commitPasses, speculationPasses, ownPasses, stepPasses, stepCall};
 use crate::Batch;
 use crate::Choice;
+use crate::speculation::is_due;
 use crate::speculation::unusable_any;
 use crate::steps::commit_refusal;
 use crate::steps::start_own_refusal;
@@ -95,9 +96,9 @@ fn step_passes(
 
 impl Batch {
     /// The job to take the step on. Only step 1 asks where the values would come from: it notes the nearest writers as it
-    /// goes, in place of a walk back from each job.
-    fn pick_for(self, step: u8, ready: [bool; 128], invalid: [bool; 128], chains: [u8; 128]) -> Pick
-        requires { ⌜ Surveyed self ready invalid chains ⌝ }
+    /// goes, in place of a walk back from each job. Values are compared with the cells only where it may decide.
+    fn pick_for(self, step: u8, ready: [bool; 128], chains: [u8; 128]) -> Pick
+        requires { ⌜ Surveyed self ready chains ⌝ }
         ensures { λ r. ⌜ r ≡ pickFor self (stepCall step) ⌝ }
     {
         let n = self.job_count as usize;
@@ -106,6 +107,8 @@ impl Batch {
         let committed = self.committed;
         let outs = self.running;
         let phases = self.phase;
+        let held = self.runs;
+        let cells = self.cells;
         let mut nearest = [0u8; 256];
         let mut pick = Pick { job: 0, chain: 0 };
         let mut j: usize = 0;
@@ -114,8 +117,16 @@ impl Batch {
             let running = outs[j];
             let phase = phases[j];
             let is_ready = ready[j];
-            let is_invalid = invalid[j];
             let chain = chains[j];
+            let due = is_due(how, is_ready, phase);
+            let mut invalid = false;
+            if due {
+                let run = held[j];
+                let handed = run.handed;
+                let guessed = jobs[j];
+                let stale = runs::is_stale(guessed, handed, cells);
+                invalid = stale;
+            }
             let mut missing = false;
             if step == 1 {
                 let job = jobs[j];
@@ -124,7 +135,7 @@ impl Batch {
                 walk::nearest::note_job(job, how, (j + 1) as u8, &mut nearest);
             }
             let on = self.speculating != 0;
-            let allowed = step_passes(step, on, how, running, phase, is_ready, is_invalid, missing);
+            let allowed = step_passes(step, on, how, running, phase, is_ready, invalid, missing);
             let next = better(pick, allowed, j as u8, chain);
             pick = next;
             j += 1;
@@ -145,17 +156,16 @@ impl Batch {
             let jobs = self.jobs;
             let committed = self.committed;
             let ready = passes::ready_flags(jobs, committed, n);
-            let invalid = self.invalid_flags(ready);
             let chains = passes::chain_lengths(jobs, n);
-            let commit = self.pick_for(4, ready, invalid, chains);
+            let commit = self.pick_for(4, ready, chains);
             if commit.chain != 0 {
                 return named(4, commit);
             }
-            let own = self.pick_for(0, ready, invalid, chains);
+            let own = self.pick_for(0, ready, chains);
             if own.chain != 0 {
                 return named(0, own);
             }
-            let speculation = self.pick_for(1, ready, invalid, chains);
+            let speculation = self.pick_for(1, ready, chains);
             if speculation.chain != 0 {
                 return named(1, speculation);
             }

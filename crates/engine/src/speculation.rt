@@ -1,16 +1,10 @@
 //! Speculative runs: which are invalid, and whether a new one can start.
 
 ghost use mathlib.Core.Path.{_≡_};
-ghost use mathlib.Core.Bool.{false};
-ghost use Prim.Native.Nat.{_<_, _≤_};
+ghost use Prim.Native.Nat.{_<_};
 ghost use lib.ListN.{length};
-ghost use Rattle.laws.specs.Fold.{column};
-ghost use Rattle.dependence.specs.Ready.{ready};
 ghost use Rattle.rules.specs.Snapshot.{isLive};
-ghost use Rattle.rules.specs.Speculation.{isInvalid};
-ghost use Rattle.engine.specs.Record.{snapshotOf};
-ghost use Rattle.engine.specs.Speculation.{invalidRun, unusableAt, unusableAny};
-use crate::Batch;
+ghost use Rattle.engine.specs.Speculation.{invalidRun, isDue, unusableAt, unusableAny};
 use crate::Run;
 use dependence::Job;
 
@@ -34,6 +28,19 @@ pub(crate) fn is_invalid(ready: bool, phase: u8, job: Job, run: Run, cells: [i32
             let handed = run.handed;
             return runs::is_stale(job, handed, cells);
         }
+    }
+    false
+}
+
+/// Whether the chooser has to know if the run is invalid: it is live, and its job ready and not committed.
+pub(crate) fn is_due(how: u8, unblocked: bool, phase: u8) -> bool
+    ensures { λ r. ⌜ r ≡ isDue how unblocked phase ⌝ }
+{
+    if how != 0 {
+        return false;
+    }
+    if unblocked {
+        return is_live(phase);
     }
     false
 }
@@ -67,30 +74,4 @@ pub(crate) fn unusable_any(sources: [u8; 4], phases: &[u8; 128]) -> bool
         place += 1;
     }
     false
-}
-
-impl Batch {
-    /// For each job held, whether its speculative run is invalid, by which jobs are ready.
-    pub(crate) fn invalid_flags(self, readies: [bool; 128]) -> [bool; 128]
-        requires { ⌜ (self .«job_count» ≤ 128) × (readies ≡ column 128 (self .«job_count») (ready (self .jobs) (self .committed)) false) ⌝ }
-        ensures { λ r. ⌜ r ≡ column 128 (self .«job_count») (isInvalid (snapshotOf self)) false ⌝ }
-    {
-        // each column in a local: reading an element of `self` would copy the whole record
-        let jobs = self.jobs;
-        let runs = self.runs;
-        let phases = self.phase;
-        let cells = self.cells;
-        let mut invalid = [false; 128];
-        let mut j: usize = 0;
-        while j < (self.job_count as usize) {
-            let ready = readies[j];
-            let phase = phases[j];
-            let job = jobs[j];
-            let run = runs[j];
-            let flag = is_invalid(ready, phase, job, run, cells);
-            invalid[j] = flag;
-            j += 1;
-        }
-        invalid
-    }
 }

@@ -25,29 +25,19 @@ cast-n c = search needs
 ready-flags-requires : tie.Need-ready-flags-requires
 ready-flags-requires c κs = search needs
 
--- a record in form has at most 128 jobs
-invalid-flags-requires : tie.Need-invalid-flags-requires
-invalid-flags-requires c κs =
-    let e = c .before .before .before .before in (
-      form-counts (e .before .before .before .before .args .self)
-          (sym (e .before .before .before .is-in-form .ensures) ∙ e .before .before .if1 .taken) .few-jobs,
-      c .ready-flags .ensures,
-    )
-
 chain-lengths-requires : tie.Need-chain-lengths-requires
 chain-lengths-requires c κs = search needs
 
--- what the passes promise
+-- what the passes promise; a record in form has at most 128 jobs
 pick-for-requires : tie.Need-pick-for-requires
 pick-for-requires c κs =
-    let e = c .before .before .before .before .before .before in
+    let e = c .before .before .before .before .before in
     record {
       closed = ne-eqb _ _ (e .if2 .left);
       few =
           form-counts (e .before .before .before .before .args .self)
           (sym (e .before .before .before .is-in-form .ensures) ∙ e .before .before .if1 .taken) .few-jobs;
-      readies-are = c .before .before .ready-flags .ensures;
-      invalid-are = c .before .invalid-flags .ensures;
+      readies-are = c .before .ready-flags .ensures;
       chains-are = c .chain-lengths .ensures;
     }
 
@@ -58,7 +48,7 @@ named-requires c κs = search needs
 returns-2 : tie.Need-returns-2
 returns-2 c =
     let p = c .before .before .before in
-    let e = p .before .before .before .before .before .before .before in
+    let e = p .before .before .before .before .before .before in
     c .named .ensures
     ∙ chosen-4 (e .before .before .before .before .args .self)
     (sym (e .before .before .before .is-in-form .ensures) ∙ e .before .before .if1 .taken)
@@ -76,7 +66,7 @@ returns-3 : tie.Need-returns-3
 returns-3 c =
     let q = c .before .before .before in
     let p = q .before .before .before in
-    let e = p .before .before .before .before .before .before .before in
+    let e = p .before .before .before .before .before .before in
     c .named2 .ensures
     ∙ chosen-0 (e .before .before .before .before .args .self)
     (sym (e .before .before .before .is-in-form .ensures) ∙ e .before .before .if1 .taken)
@@ -96,7 +86,7 @@ returns-4 c =
     let r = c .before .before .before in
     let q = r .before .before .before in
     let p = q .before .before .before in
-    let e = p .before .before .before .before .before .before .before in
+    let e = p .before .before .before .before .before .before in
     c .named3 .ensures
     ∙ chosen-1 (e .before .before .before .before .args .self)
     (sym (e .before .before .before .is-in-form .ensures) ∙ e .before .before .if1 .taken)
@@ -113,7 +103,7 @@ returns-5 c =
     let r = c .before .before .before in
     let q = r .before .before .before in
     let p = q .before .before .before in
-    let e = p .before .before .before .before .before .before .before in
+    let e = p .before .before .before .before .before .before in
     c .refused2 .ensures
     ∙ chosen-19 (e .before .before .before .before .args .self)
     (sym (e .before .before .before .is-in-form .ensures) ∙ e .before .before .if1 .taken)
@@ -139,7 +129,6 @@ choose-spec =
     returns
     cast-n
     ready-flags-requires
-    invalid-flags-requires
     chain-lengths-requires
     pick-for-requires
     named-requires

@@ -4,7 +4,7 @@ use mathlib.Core.Path.{_≡_, sym, _∙_}
 use Rattle.rules.specs.Speculation.{isReady}
 use Rattle.engine.specs.Record.{snapshotOf}
 use Rattle.engine.specs.StepLaws.{ready-is}
-use Rattle.engine.specs.InvalidPass.{runStale}
+use Rattle.engine.specs.InvalidRun.{runStale}
 use borrow.Author.Needs.{needs}
 use Rattle.engine.proofs.Batch.live_validity.Statement.{statement}
 use Rattle.engine.proofs.Batch.live_validity.Tie as tie

@@ -8,7 +8,7 @@ use Rattle.rules.specs.Snapshot.{isLive}
 use Rattle.rules.specs.Speculation.{validity}
 use Rattle.engine.specs.Record.{snapshotOf}
 use Rattle.engine.specs.Ask.{shownJob}
-use Rattle.engine.specs.InvalidPass.{validity-is}
+use Rattle.engine.specs.InvalidRun.{validity-is}
 use borrow.Author.Needs.{needs}
 use Rattle.engine.proofs.Batch.shown_job.Statement.{statement}
 use Rattle.engine.proofs.Batch.shown_job.Tie as tie

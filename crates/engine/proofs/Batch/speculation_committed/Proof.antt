@@ -4,7 +4,7 @@ use lib.Seq.{set-getD}
 use borrow.Author.Tests.{ne-eqb}
 use Rattle.engine.specs.Steps.{committedBy, withJobChanged}
 use Rattle.engine.specs.StepLaws.{refused-early, place-of, own-tests, ready-is, stored-stays}
-use Rattle.engine.specs.InvalidPass.{invalid-is}
+use Rattle.engine.specs.InvalidRun.{invalid-is}
 use mathlib.Core.Path.{_≡_, sym, _∙_}
 use lib.ListN.{getD}
 use Rattle.rules.specs.Speculation.{isInvalid}

@@ -7,7 +7,7 @@ use Rattle.rules.specs.SpeculationLaws.{judged-else}
 use Rattle.engine.specs.Record.{snapshotOf}
 use Rattle.engine.specs.Steps.{startedOwn, withJobChanged}
 use Rattle.engine.specs.StepLaws.{refused-early, place-of, own-tests, ready-is}
-use Rattle.engine.specs.InvalidPass.{invalid-is}
+use Rattle.engine.specs.InvalidRun.{invalid-is}
 use borrow.Author.Needs.{needs}
 use Rattle.engine.proofs.Batch.start_own.Statement.{statement}
 use Rattle.engine.proofs.Batch.start_own.Tie as tie

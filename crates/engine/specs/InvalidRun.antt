@@ -1,13 +1,9 @@
--- R43 to R45 as the code judges them are the rules', of one job and in a pass over all of them.
-use Prim.Native.Nat.{ℕ, _+_, _<_, _≤_}
-use native.Mathlib.Omega.{arith}
+-- R43 to R45 as the code judges a guess are the rules'.
+use Prim.Native.Nat.{ℕ}
 use mathlib.Core.Bool.{Bool, true, false, cond, not, _&&_}
-use mathlib.Core.List.{List}
 use mathlib.Core.Path.{_≡_, refl, _∙_}
 use lib.IntN.{pos}
-use lib.ListN.{getD, set}
-use Rattle.laws.specs.Fold.{column}
-use Rattle.laws.specs.FoldLaws.{column-at, column-more}
+use lib.ListN.{getD}
 use Rattle.dependence.specs.Job.{jobAt}
 use Rattle.dependence.specs.Ready.{ready}
 use Rattle.rules.specs.Values.{valueAt, isStale}
@@ -50,15 +46,3 @@ module _ (b : Batch) (j : ℕ) where
           → judgedAs (live && not settled) readyNow runStale ≡ judgedAs (live && not settled) readyNow (guessStale live)
       cases true settled readyNow = refl
       cases false settled readyNow = refl
-
-  -- The turn of job j.
-  pub invalid-step : {readies invalid : List Bool} {flag : Bool} → j < b .«job_count» → b .«job_count» ≤ 128
-      → readies ≡ column 128 (b .«job_count») (ready (b .jobs) (b .committed)) false
-      → invalid ≡ column 128 j (isInvalid (snapshotOf b)) false
-      → flag ≡ invalidRun (getD readies j false) (getD (b .phase) j 0) (jobAt (b .jobs) j) (runAt b j) (b .cells)
-      → set invalid j flag ≡ column 128 (j + 1) (isInvalid (snapshotOf b)) false
-  invalid-step {readies} held few e f g =
-      let low : j < 128 = omega (arith, held, few) in
-      let ready-at : getD readies j false ≡ ready (b .jobs) (b .committed) j =
-      rw e (column-at 128 (b .«job_count») j (ready (b .jobs) (b .committed)) false false held low) in
-      rw (invalid-is ready-at g, f) (column-more 128 j (isInvalid (snapshotOf b)) false low)
