@@ -108,7 +108,8 @@ named_numbers! {
 }
 
 named_numbers! {
-    /// How a job's guess is judged (R45). What is [`Invalid`](Validity::Invalid) stays so until it is thrown away.
+    /// How a job's guess is judged (R45). A judgement stays (R186): what is [`Invalid`](Validity::Invalid) is so until it is
+    /// thrown away, and what is [`Valid`](Validity::Valid) until it is settled.
     Validity {
         /// There is no guess to judge: none is out or stored, or the job is settled.
         NoRun = 0,

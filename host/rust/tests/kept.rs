@@ -108,7 +108,7 @@ fn sum<const COUNT: usize>(sums: &mut [u64; COUNT], more: [u64; COUNT]) {
 /// Every eighth list is any.
 #[test]
 fn batches() {
-    let (count, seed) = (setting("BATCHES", 1500), setting("SEED", 1));
+    let (count, seed) = (setting("BATCHES", 800), setting("SEED", 1));
     let mut dice = Dice::new(seed, 185);
     let mut met = Met::default();
     for list in 0..count {
