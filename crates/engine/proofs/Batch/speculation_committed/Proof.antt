@@ -2,7 +2,7 @@
 use native.Mathlib.Omega.{arith}
 use lib.Seq.{set-getD}
 use borrow.Author.Tests.{ne-eqb}
-use Rattle.engine.specs.Steps.{committedBy, withJobChanged}
+use Rattle.engine.specs.Steps.{commitRefusal, committedBy, withJobChanged}
 use Rattle.engine.specs.StepLaws.{refused-early, place-of, own-tests, ready-is, stored-stays}
 use Rattle.engine.specs.InvalidRun.{invalid-is}
 use mathlib.Core.Path.{_≡_, sym, _∙_}
@@ -69,11 +69,10 @@ is-invalid-requires c κs = search needs
 commit-refusal-requires : tie.Need-commit-refusal-requires
 commit-refusal-requires c κs = search needs
 
--- refused by its own tests
-returns-2 : tie.Need-returns-2
-unfolding committedBy
-returns-2 c =
-    let r = c .before in
+-- the number that its own tests give
+own-refusal : (r : tie.After-commit-refusal)
+    → let a = r .before .before .before .before .before .before .before .before .before .before .before .args in commitRefusal (a .t1) (a .j) ≡ r .commit-refusal .result
+own-refusal r =
     let invalid = r .before in
     let ready = invalid .before .before .before .before in
     let e = ready .before .before .before .before in
@@ -87,8 +86,12 @@ returns-2 c =
       ← ready .is-ready .ensures,
       ← judged,
       ← r .commit-refusal .ensures,
-      ne-eqb _ _ (c .if2 .taken),
     )
+
+-- refused by them
+returns-2 : tie.Need-returns-2
+unfolding committedBy
+returns-2 c = rw (own-refusal (c .before), ne-eqb _ _ (c .if2 .taken))
 
 write-back-requires : tie.Need-write-back-requires
 write-back-requires c κs = search needs
@@ -105,19 +108,9 @@ unfolding committedBy withJobChanged
 returns-3 c =
     let t = c .before .before in
     let r = t .before in
-    let invalid = r .before in
-    let ready = invalid .before .before .before .before in
-    let e = ready .before .before .before .before in
-    let a = e .before .before .args in
-    let asked = e .before .step-refusal .ensures in
-    let judged : invalid .is-invalid .result ≡ isInvalid (snapshotOf (a .t1)) (a .j) =
-    invalid-is (a .t1) (a .j) (ready .is-ready .ensures) (invalid .is-invalid .ensures) in
+    let a = r .before .before .before .before .before .before .before .before .before .before .before .args in
     rw (
-      own-tests (a .t1) (a .j) asked (e .if1 .left) _,
-      ready-is (a .t1) (a .j),
-      ← ready .is-ready .ensures,
-      ← judged,
-      ← r .commit-refusal .ensures,
+      own-refusal r,
       t .if2 .left,
       ← c .write-back .ensures,
       set-getD (a .t1 .runs) (a .j) noRun,

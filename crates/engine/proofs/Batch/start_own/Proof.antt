@@ -5,7 +5,7 @@ use borrow.Author.Tests.{ne-eqb}
 use Rattle.rules.specs.Speculation.{isInvalid}
 use Rattle.rules.specs.SpeculationLaws.{judged-else}
 use Rattle.engine.specs.Record.{snapshotOf}
-use Rattle.engine.specs.Steps.{startedOwn, withJobChanged}
+use Rattle.engine.specs.Steps.{startOwnRefusal, startedOwn, withJobChanged}
 use Rattle.engine.specs.StepLaws.{refused-early, place-of, own-tests, ready-is}
 use Rattle.engine.specs.InvalidRun.{invalid-is}
 use borrow.Author.Needs.{needs}
@@ -23,11 +23,10 @@ returns c =
     let e = ne-eqb _ _ (c .if1 .taken) in
     rw (refused-early (a .t1) (a .j) (c .before .step-refusal .ensures) _ e, e)
 
--- refused by its own tests
-returns-2 : tie.Need-returns-2
-unfolding startedOwn
-returns-2 c =
-    let r = c .before in
+-- the number that its own tests give
+own-refusal : (r : tie.After-start-own-refusal)
+    → let a = r .before .before .before .before .before .before .before .before .before .before .before .before .args in startOwnRefusal (a .t1) (a .j) ≡ r .start-own-refusal .result
+own-refusal r =
     let invalid = r .before in
     let ready = invalid .before .before .before .before in
     let e = ready .before .before .before .before .before in
@@ -42,8 +41,12 @@ returns-2 c =
       ← ready .is-ready .ensures,
       ← judged,
       ← r .start-own-refusal .ensures,
-      ne-eqb _ _ (c .if2 .taken),
     )
+
+-- refused by them
+returns-2 : tie.Need-returns-2
+unfolding startedOwn
+returns-2 c = rw (own-refusal (c .before), ne-eqb _ _ (c .if2 .taken))
 
 -- accepted
 returns-3 : tie.Need-returns-3
@@ -52,21 +55,8 @@ returns-3 c =
     let run = c .before in
     let values = run .before in
     let t = values .before in
-    let r = t .before in
-    let invalid = r .before in
-    let ready = invalid .before .before .before .before in
-    let e = ready .before .before .before .before .before in
-    let a = e .before .before .args in
-    let asked = e .before .step-refusal .ensures in
-    let judged : invalid .is-invalid .result ≡ isInvalid (snapshotOf (a .t1)) (a .j) =
-    invalid-is (a .t1) (a .j) (ready .is-ready .ensures) (invalid .is-invalid .ensures) in
     rw (
-      own-tests (a .t1) (a .j) asked (e .if1 .left) _,
-      judged-else (snapshotOf (a .t1)) (a .j),
-      ready-is (a .t1) (a .j),
-      ← ready .is-ready .ensures,
-      ← judged,
-      ← r .start-own-refusal .ensures,
+      own-refusal (t .before),
       t .if2 .left,
       ← c .discarded-phase .ensures,
       run .new-run .ensures,
