@@ -7,6 +7,7 @@ ghost use Rattle.laws.specs.Search.{anyBelow};
 ghost use Rattle.laws.specs.Refusal.{firstOf};
 ghost use Rattle.admission.specs.Admission.{cellBefore, faultsAt, firstModes, kindFits, refusals, jobRefusal};
 use dependence::Job;
+use dependence::PREDICTED_WRITE;
 use dependence::READ;
 use dependence::UNCERTAIN_WRITE;
 use dependence::WRITE;
@@ -70,7 +71,7 @@ fn faults_at(job: Job, cell_count: u8, i: usize) -> Faults
     let repeated = repeats(job, i);
     Faults {
         cell: cell_count <= access.cell,
-        mode: UNCERTAIN_WRITE < access.mode,
+        mode: PREDICTED_WRITE < access.mode,
         repeated,
     }
 }

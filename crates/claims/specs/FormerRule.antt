@@ -10,6 +10,7 @@ use lib.Dec.{eqb}
 use lib.IntN.{ℤ}
 use lib.ListN.{getD}
 use Rattle.laws.specs.Search.{anyBelow}
+use Rattle.dependence.specs.Job.{predicts}
 use Rattle.rules.specs.Snapshot.{isDiscarded, isLive}
 use Rattle.rules.specs.Speculation.{isReady, isValid}
 use Rattle.rules.specs.Call.{Call}
@@ -40,9 +41,11 @@ fellBelow l (suc j) = fellBelow l j ++ (fellGiven l (fellBelow l j) j ∷ [])
 abbrev pub fellFormerly : Ledger → ℕ → Bool
 fellFormerly l j = fellGiven l (fellBelow l j) j
 
--- The guess of a ready job that is not settled, out or stored, did not fall by the former rule.
+-- The guess of a ready job that is not settled, out or stored, did not fall by the former rule. It was handed no prediction:
+-- that rule knew none.
 pub record StoodFormerly (l : Ledger) (j : ℕ) : Type 0 where
   pub held : j < l .jobCount
+  pub unpredicted : predicts (l .job j) ≡ false
   pub unsettled : l .entry j .counted ≡ none
   pub ready : isReady (snapshotOfLedger l) j ≡ true
   pub live : isLive (guessPhase (l .entry j .guess)) ≡ true

@@ -1,7 +1,7 @@
 -- R162: the ledger's jobs are those of the accepted inserts, in their order, wherever in the list these stand. (Proved as
 -- `jobs-inserted`.) So two lists inserted the same jobs where their accepted inserts are the same, one before its seal and the
--- other after it. (Proved as `same-inserts`.) And the inserts, in their order, might as well have come before all other calls:
--- R182, proved as `inserts-first`.
+-- other after it, one with these predictions and the other with those. (Proved as `same-inserts`.) And the inserts, in their
+-- order, might as well have come before all other calls: R182, proved as `inserts-first`.
 use Prim.Native.Nat.{ℕ, _<_}
 use mathlib.Core.Bool.{cond}
 use mathlib.Core.List.{List, [], _∷_, _++_, map}
@@ -14,7 +14,7 @@ use Rattle.rules.specs.Call.{Call, insert, seal, startOwn, startSpeculation, re
 use Rattle.engine.specs.Opening.{opened}
 use Rattle.claims.specs.Ledger.{Ledger, Report}
 use Rattle.claims.specs.Trace.{Event, eventsOf, batchOf, ledgerOf}
-use Rattle.claims.specs.SameEnd.{Follows, EndAlike}
+use Rattle.claims.specs.SameEnd.{SameJob, Follows, EndAlike}
 
 -- The job of a call that is an insert, and of another call none.
 abbrev pub jobOf : Call → List Job
@@ -43,11 +43,16 @@ insertsOf heights calls = jobsOf (eventsOf (opened heights .batch) calls)
 abbrev pub InsertsStatement : Type 0
 InsertsStatement = (heights : List ℤ) (calls : List Call) → JobsAre (insertsOf heights calls) (ledgerOf heights calls)
 
+-- The same jobs, one by one.
+pub record SameInserts (jobs others : List Job) : Type 0 where
+  pub length-same : length jobs ≡ length others
+  pub each-same : (j : ℕ) → j < length jobs → SameJob (jobAt jobs j) (jobAt others j)
+
 -- R176 again, with the lists' own inserts in place of their ledgers' jobs.
 abbrev pub SameInsertsStatement : Type 0
 SameInsertsStatement =
     (heights : List ℤ) (first second : List Call) → opened heights .refusal ≡ 0
-    → insertsOf heights first ≡ insertsOf heights second
+    → SameInserts (insertsOf heights first) (insertsOf heights second)
     → (rule : ℕ → List ℤ → Report) → Follows rule (ledgerOf heights first) → Follows rule (ledgerOf heights second)
     → EndAlike (length heights) (length (insertsOf heights first)) (batchOf heights first) (batchOf heights second)
 

@@ -12,3 +12,4 @@ pub mod Tallies
 pub mod Bypassed
 pub mod FormerRule
 pub mod Judged
+pub mod Predicted

@@ -17,7 +17,7 @@ use Rattle.claims.specs.Ledger.{Report, Counted, Ledger, isCounted}
 use Rattle.claims.specs.Trace.{batchOf, ledgerOf}
 
 -- Two jobs of the same kind, parameter and accesses. What stands in the places that a job does not use is no access of
--- it, and need not be the same.
+-- it, and need not be the same; nor need predictions, right or wrong.
 pub record SameJob (a b : Job) : Type 0 where
   pub kind-same : a .kind ≡ b .kind
   pub parameter-same : a .parameter ≡ b .parameter

@@ -2,6 +2,7 @@
 
 use crate::job;
 use crate::lines;
+use dependence::PREDICTED_WRITE;
 use dependence::READ;
 use dependence::UNCERTAIN_WRITE;
 use dependence::WRITE;
@@ -45,9 +46,10 @@ pub fn accesses() {
     );
     refusal(b"mode 2", job::of_one(5, 2));
     refusal(b"mode 3", job::of_one(5, 3));
+    refusal(b"mode 4", job::of_one(5, 4));
     refusal(
-        b"mode 3 in a place not in use",
-        job::last_place(3, job::access(5, 3)),
+        b"mode 4 in a place not in use",
+        job::last_place(3, job::access(5, 4)),
     );
     refusal(b"a cell twice", job::last_place(4, job::access(1, WRITE)));
     refusal(
@@ -61,11 +63,20 @@ pub fn accesses() {
     );
 }
 
+/// A job of the kind, in which the first access is a predicted write and the others are reads.
+fn predicted_for(what: &[u8], kind: u8, arity: u8) {
+    refusal(what, with_modes(kind, arity, PREDICTED_WRITE, READ, READ));
+}
+
 pub fn kinds_and_modes() {
     lines::heading(b"refusal 8: the kind and its modes");
     refusal(
         b"outside, free modes 1 2 0",
         with_modes(0, 3, WRITE, UNCERTAIN_WRITE, READ),
+    );
+    refusal(
+        b"outside, modes 3 3 3",
+        with_modes(0, 3, PREDICTED_WRITE, PREDICTED_WRITE, PREDICTED_WRITE),
     );
     refusal(b"set 1", with_modes(kinds::SET, 1, WRITE, READ, READ));
     refusal(b"shift 1", with_modes(kinds::SHIFT, 1, WRITE, READ, READ));
@@ -98,6 +109,12 @@ pub fn kinds_and_modes() {
     refusal(b"pair 1 1", with_modes(kinds::PAIR, 2, WRITE, WRITE, READ));
     refusal(b"kind 7", with_modes(7, 1, WRITE, READ, READ));
     refusal(b"kind 255", with_modes(255, 1, WRITE, READ, READ));
+    predicted_for(b"set 3", kinds::SET, 1);
+    predicted_for(b"shift 3", kinds::SHIFT, 1);
+    predicted_for(b"spike 3 0", kinds::SPIKE, 2);
+    predicted_for(b"floor 3", kinds::FLOOR, 1);
+    predicted_for(b"mean 3 0 0", kinds::MEAN, 3);
+    predicted_for(b"pair 3 0", kinds::PAIR, 2);
 }
 
 pub fn order() {
@@ -107,10 +124,10 @@ pub fn order() {
         b"5 accesses, cell 64",
         job::last_place(5, job::access(64, READ)),
     );
-    refusal(b"cell 64, mode 3", job::last_place(4, job::access(64, 3)));
+    refusal(b"cell 64, mode 4", job::last_place(4, job::access(64, 4)));
     refusal(
-        b"mode 3, a cell twice",
-        job::last_place(4, job::access(1, 3)),
+        b"mode 4, a cell twice",
+        job::last_place(4, job::access(1, 4)),
     );
     refusal(
         b"a cell twice, kind 7",

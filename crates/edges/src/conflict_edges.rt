@@ -2,6 +2,7 @@
 
 use crate::job;
 use crate::lines;
+use dependence::PREDICTED_WRITE;
 use dependence::READ;
 use dependence::UNCERTAIN_WRITE;
 use dependence::WRITE;
@@ -27,6 +28,7 @@ pub fn accesses() {
     let read = job::access(5, READ);
     let write = job::access(5, WRITE);
     let maybe = job::access(5, UNCERTAIN_WRITE);
+    let predicted = job::access(5, PREDICTED_WRITE);
     of_accesses(b"read 5, read 5", read, read);
     of_accesses(b"read 5, write 5", read, write);
     of_accesses(b"read 5, maybe-write 5", read, maybe);
@@ -34,6 +36,8 @@ pub fn accesses() {
     of_accesses(b"maybe-write 5, maybe-write 5", maybe, maybe);
     of_accesses(b"write 5, write 5", write, write);
     of_accesses(b"write 5, write 6", write, job::access(6, WRITE));
+    of_accesses(b"read 5, predicted write 5", read, predicted);
+    of_accesses(b"predicted write 5, read 5", predicted, read);
 }
 
 pub fn places() {

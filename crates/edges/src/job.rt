@@ -12,9 +12,10 @@ pub fn access(cell: u8, mode: u8) -> Access {
 pub fn of_kind(kind: u8, arity: u8, a: Access, b: Access, c: Access, d: Access) -> Job {
     Job {
         kind,
-        parameter: 0,
         arity,
         accesses: [a, b, c, d],
+        parameter: 0,
+        predicted: [0; 4],
     }
 }
 

@@ -1,4 +1,4 @@
--- One turn of the pass that hands values out: the places before it hold what they are handed, the others what is present.
+-- One turn of the pass that hands values out: the places before it hold what they are handed, the others what is presumed.
 use Prim.Native.Nat.{ℕ, zero, suc, _+_, _<_}
 use native.Mathlib.Omega.{arith}
 use mathlib.Core.List.{List, [], _∷_, _++_}
@@ -23,19 +23,19 @@ four-at f (suc (suc zero)) h = refl
 four-at f (suc (suc (suc zero))) h = refl
 four-at f (suc (suc (suc (suc i)))) h = absurd (omega arith)
 
--- After the last place nothing of what is present is left.
-pub forward-all : (f : ℕ → ℤ) (present : List ℤ) → length present ≡ 4 → take 4 (four f) ++ drop 4 present ≡ four f
-forward-all f present long = rw (drop-of-length-le present {i = 4} (omega (arith, long)))
+-- After the last place nothing of what is presumed is left.
+pub forward-all : (f : ℕ → ℤ) (presumed : List ℤ) → length presumed ≡ 4 → take 4 (four f) ++ drop 4 presumed ≡ four f
+forward-all f presumed long = rw (drop-of-length-le presumed {i = 4} (omega (arith, long)))
 
-module _ (f : ℕ → ℤ) (present : List ℤ) (long : length present ≡ 4) (i : ℕ) (here : i < 4) where
+module _ (f : ℕ → ℤ) (presumed : List ℤ) (long : length presumed ≡ 4) (i : ℕ) (here : i < 4) where
   -- the place's value is stored
-  pub forward-more : (x : ℤ) → x ≡ f i → set (take i (four f) ++ drop i present) i x ≡ take (i + 1) (four f) ++ drop (i + 1) present
+  pub forward-more : (x : ℤ) → x ≡ f i → set (take i (four f) ++ drop i presumed) i x ≡ take (i + 1) (four f) ++ drop (i + 1) presumed
   forward-more x e =
-      rw (e, ← four-at f i here) (copy-more present (four f) i (pos 0) (omega (arith, long, here)) (omega (arith, here)))
+      rw (e, ← four-at f i here) (copy-more presumed (four f) i (pos 0) (omega (arith, long, here)) (omega (arith, here)))
 
-  -- what is present is the place's value
-  pub forward-kept : getD present i (pos 0) ≡ f i → take i (four f) ++ drop i present ≡ take (i + 1) (four f) ++ drop (i + 1) present
+  -- what is presumed is the place's value
+  pub forward-kept : getD presumed i (pos 0) ≡ f i → take i (four f) ++ drop i presumed ≡ take (i + 1) (four f) ++ drop (i + 1) presumed
   forward-kept e =
-      sym (set-getD (take i (four f) ++ drop i present) i (pos 0))
-      ∙ forward-more (getD (take i (four f) ++ drop i present) i (pos 0))
-      (seam (four f) present i (omega (arith, here)) (omega (arith, long, here)) ∙ e)
+      sym (set-getD (take i (four f) ++ drop i presumed) i (pos 0))
+      ∙ forward-more (getD (take i (four f) ++ drop i presumed) i (pos 0))
+      (seam (four f) presumed i (omega (arith, here)) (omega (arith, long, here)) ∙ e)

@@ -7,18 +7,19 @@ use mathlib.Core.Path.{_≡_}
 use lib.ListN.{getD}
 use Rattle.laws.specs.Search.{anyBelow}
 use Rattle.dependence.specs.declared.Job.{Job}
-use Rattle.dependence.specs.Job.{inUse, accessAt, jobAt}
+use Rattle.dependence.specs.Job.{accessAt, jobAt}
 use Rattle.walk.specs.Sources.{sourceFor, sourceIn, sourcesOf, committedIn}
 use Rattle.walk.specs.SourceLaws.{source-le}
+use Rattle.rules.specs.Walk.{looksBack}
 use Rattle.rules.specs.Speculation.{sourceMissing}
 use Rattle.engine.specs.declared.Batch.{Batch}
 use Rattle.engine.specs.Record.{snapshotOf}
 use Rattle.engine.specs.Speculation.{unusableAny, SourcesHeld}
 
 pub source-limit : (jobs : List Job) (committed : List ℕ) (j place : ℕ) → sourceIn jobs committed j place ≤ j
-source-limit jobs committed j place = cases (inUse (jobAt jobs j) place)
+source-limit jobs committed j place = cases (looksBack (jobAt jobs j) place)
   where
-    cases : (used : Bool) → cond used (sourceFor jobs committed (accessAt (jobAt jobs j) place .cell) j) 0 ≤ j
+    cases : (back : Bool) → cond back (sourceFor jobs committed (accessAt (jobAt jobs j) place .cell) j) 0 ≤ j
     cases true = source-le (λ i. jobAt jobs i) (λ i. committedIn committed i) (accessAt (jobAt jobs j) place .cell) j
     cases false = omega arith
 

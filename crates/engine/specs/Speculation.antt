@@ -35,8 +35,8 @@ unusableAny sources phases = anyBelow 4 (unusableAt sources phases)
 abbrev pub SourcesHeld : List ℕ → Type 0
 SourcesHeld sources = (place : ℕ) → place < 4 → getD sources place 0 ≤ 128
 
--- What a place is handed, given what is present there and the sources.
+-- What a place is handed, given what is presumed there and the sources.
 abbrev pub forwardedAt : Batch → Job → List ℤ → List ℕ → ℕ → ℤ
-forwardedAt b job present sources place =
-    cond (eqb (getD sources place 0) 0) (valueAt present place)
+forwardedAt b job presumed sources place =
+    cond (eqb (getD sources place 0) 0) (valueAt presumed place)
     (valueFor (jobAt (b .jobs) (getD sources place 0 - 1)) (runAt b (getD sources place 0 - 1) .reported) (accessAt job place .cell))

@@ -37,9 +37,10 @@ fn refused_job(refusal: u8) -> JobAnswer
     let access = Access { cell: 0, mode: 0 };
     let job = Job {
         kind: 0,
-        parameter: 0,
         arity: 0,
         accesses: [access; 4],
+        parameter: 0,
+        predicted: [0; 4],
     };
     JobAnswer {
         refusal,

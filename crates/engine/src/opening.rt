@@ -48,9 +48,10 @@ impl Batch {
         let access = Access { cell: 0, mode: 0 };
         let job = Job {
             kind: 0,
-            parameter: 0,
             arity: 0,
             accesses: [access; 4],
+            parameter: 0,
+            predicted: [0; 4],
         };
         let run = blank_run();
         Batch {

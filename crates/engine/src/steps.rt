@@ -240,12 +240,12 @@ impl Batch {
         }
     }
 
-    /// What the speculative run is handed: at each place forwarded from its source, or present in the cell.
-    fn forwarded_values(self, job: Job, present: [i32; 4], sources: [u8; 4]) -> [i32; 4]
+    /// What the speculative run is handed: at each place forwarded from its source, or what is presumed there.
+    fn forwarded_values(self, job: Job, presumed: [i32; 4], sources: [u8; 4]) -> [i32; 4]
         requires { ⌜ SourcesHeld sources ⌝ }
-        ensures { λ r. ⌜ r ≡ four (forwardedAt self job present sources) ⌝ }
+        ensures { λ r. ⌜ r ≡ four (forwardedAt self job presumed sources) ⌝ }
     {
-        let mut handed = present;
+        let mut handed = presumed;
         let mut place: usize = 0;
         while place < 4 {
             let source = sources[place] as usize;
@@ -262,7 +262,8 @@ impl Batch {
         handed
     }
 
-    /// R52, step 1: starts the speculative run of job `j`, as if the uncertain writers before it wrote nothing.
+    /// R52, step 1: starts the speculative run of job `j`, as if the uncertain writers before it wrote nothing and its
+    /// predictions were right.
     pub fn start_speculation(mut self, j: usize) -> Started
         ensures { λ r. ⌜ r ≡ startedSpeculation self j ⌝ }
     {
@@ -294,8 +295,8 @@ impl Batch {
         }
         let job = jobs[j];
         let cells = self.cells;
-        let present = runs::present_values(job, cells);
-        let handed = self.forwarded_values(job, present, sources);
+        let presumed = runs::presumed_values(job, cells);
+        let handed = self.forwarded_values(job, presumed, sources);
         let bypassed = walk::bypassed_by(jobs, committed, j);
         let run = new_run(handed, sources, bypassed);
         self.runs[j] = run;

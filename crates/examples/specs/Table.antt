@@ -1,5 +1,5 @@
--- The worked examples P1 to P9 and P11 to P15 as one table, shown by one theorem about the definitions.
--- The rows behind P15 are points of the same plans at which a call is refused, and a job of four accesses.
+-- The worked examples P1 to P9 and P11 to P18 as one table, shown by one theorem about the definitions.
+-- The rows behind P18 are points of the same plans at which a call is refused, and a job of four accesses.
 use Prim.Native.Nat.{ℕ, zero, suc}
 use mathlib.Core.Bool.{Bool, true, false}
 use mathlib.Core.List.{List, [], _∷_}
@@ -11,8 +11,9 @@ use Rattle.laws.specs.Fold.{foldBelow, countBelow}
 use Rattle.laws.specs.Refusal.{firstOf}
 use Rattle.laws.specs.SameHeight.{sameHeight}
 use Rattle.laws.specs.Rows.{AllHold, end, _also_}
+use Rattle.dependence.specs.declared.Access.{Access}
 use Rattle.dependence.specs.declared.Job.{Job}
-use Rattle.dependence.specs.Job.{noAccess}
+use Rattle.dependence.specs.Job.{noAccess, noPredictions}
 use Rattle.dependence.specs.Conflict.{touches, conflicts}
 use Rattle.admission.specs.Admission.{kindModes, jobRefusal}
 use Rattle.kinds.specs.Kinds.{reported, tableOf, resultOf}
@@ -46,6 +47,8 @@ pub data Example : Type 0 where
   settled : Plan → ℕ → ℕ → ℕ → Example
   -- after the plan: the cell, and its height
   height : Plan → ℕ → ℤ → Example
+  -- after the plan: the job, and the values handed to its run
+  receives : Plan → ℕ → List ℤ → Example
   -- after the plan: the job, and how its guess is judged
   judged : Plan → ℕ → ℕ → Example
   -- after the plan: the tally, as jobs, guesses started, kept, thrown away, and the rest
@@ -65,6 +68,7 @@ Holds (conflict earlier later answer) = conflicts earlier later ≡ answer
 Holds (answers plan list) = answersIn plan ≡ list
 Holds (settled plan j how mark) = settledIn (final plan) j ≡ record { how = how; mark = mark }
 Holds (height plan x value) = askedCell (final plan) x .height ≡ value
+Holds (receives plan j values) = askedJob (final plan) j .handed ≡ values
 Holds (judged plan j number) = askedJob (final plan) j .validity ≡ number
 Holds (tally plan numbers) = tallied (final plan) ≡ given numbers
 Holds (held plan jobs finished) = heldIn (final plan) ≡ record { jobs = jobs; finished = finished }
@@ -108,24 +112,31 @@ two a b = a ∷ b ∷ pos 0 ∷ pos 0 ∷ []
 abbrev three : ℤ → ℤ → ℤ → List ℤ
 three a b c = a ∷ b ∷ c ∷ pos 0 ∷ []
 
--- A job of one access, in the mode, to the cell.
-abbrev accessing : ℕ → ℤ → ℕ → ℕ → Job
-accessing kind p mode cell = record {
+abbrev to : ℕ → ℕ → Access
+to cell mode = record { cell = cell; mode = mode }
+
+-- A job of one access.
+abbrev accessing : ℕ → ℤ → Access → Job
+accessing kind p a = record {
   kind = kind;
-  parameter = p;
   arity = 1;
-  accesses = record { cell = cell; mode = mode } ∷ noAccess ∷ noAccess ∷ noAccess ∷ [];
+  accesses = a ∷ noAccess ∷ noAccess ∷ noAccess ∷ [];
+  parameter = p;
+  predicted = noPredictions;
 }
 
 abbrev reader : ℕ → Job
-reader cell = accessing outside (pos 0) 0 cell
+reader cell = accessing outside (pos 0) (to cell 0)
+
+abbrev writer : ℕ → Job
+writer cell = accessing outside (pos 0) (to cell 1)
 
 abbrev maybeWriter : ℕ → Job
-maybeWriter cell = accessing outside (pos 0) 2 cell
+maybeWriter cell = accessing outside (pos 0) (to cell 2)
 
 -- A job of the kind, with p, on one cell, in the mode that the kind has for it.
 abbrev jobOn : ℕ → ℤ → ℕ → Job
-jobOn kind p cell = accessing kind p (getD (kindModes kind) 0 0) cell
+jobOn kind p cell = accessing kind p (to cell (getD (kindModes kind) 0 0))
 
 -- P8: the worked plan.
 abbrev plan8 : Plan
@@ -175,17 +186,19 @@ plan9 = record {
 abbrev pairOf : ℕ → ℕ → Job
 pairOf a b = record {
   kind = pair;
-  parameter = pos 0;
   arity = 2;
-  accesses = record { cell = a; mode = 2 } ∷ record { cell = b; mode = 2 } ∷ noAccess ∷ noAccess ∷ [];
+  accesses = to a 2 ∷ to b 2 ∷ noAccess ∷ noAccess ∷ [];
+  parameter = pos 0;
+  predicted = noPredictions;
 }
 
 abbrev meanOf : ℕ → ℕ → ℕ → Job
 meanOf a b c = record {
   kind = mean;
-  parameter = pos 0;
   arity = 3;
-  accesses = record { cell = a; mode = 1 } ∷ record { cell = b; mode = 0 } ∷ record { cell = c; mode = 0 } ∷ noAccess ∷ [];
+  accesses = to a 1 ∷ to b 0 ∷ to c 0 ∷ noAccess ∷ [];
+  parameter = pos 0;
+  predicted = noPredictions;
 }
 
 -- So many jobs, and the lowest of them.
@@ -254,6 +267,72 @@ plan15 = record {
 abbrev planSetOther : Plan
 planSetOther = first 11 plan15 then ownReport 1 (one (pos 1501)) 0
 
+-- P16: job 1 predicts the height that job 0 reports; the same job in another mode; and job 0 reports another height.
+abbrev predicting : ℕ → Job
+predicting mode = record {
+  kind = outside;
+  arity = 1;
+  accesses = to 0 mode ∷ noAccess ∷ noAccess ∷ noAccess ∷ [];
+  parameter = pos 0;
+  predicted = one (pos 1510);
+}
+
+abbrev plan16 : ℕ → Plan
+plan16 mode = record {
+  heights = pos 1500 ∷ [];
+  lines =
+      insertion (writer 0)
+      ∷ insertion (predicting mode)
+      ∷ sealing 1
+      ∷ step 0 0
+      ∷ step 1 1
+      ∷ speculationReport 1 (one (pos 1530)) 0
+      ∷ ownReport 0 (one (pos 1510)) 0
+      ∷ step 4 1
+      ∷ [];
+}
+
+abbrev planMissed : Plan
+planMissed = first 6 (plan16 3) then ownReport 0 (one (pos 1511)) 0
+
+-- P17: job 2 predicts the height of cell 0 and reads cell 1; job 3 takes what it reports.
+abbrev predictingBeside : Job
+predictingBeside = record {
+  kind = outside;
+  arity = 2;
+  accesses = to 0 3 ∷ to 1 0 ∷ noAccess ∷ noAccess ∷ [];
+  parameter = pos 0;
+  predicted = one (pos 1510);
+}
+
+abbrev plan17 : Plan
+plan17 = record {
+  heights = pos 1500 ∷ pos 1480 ∷ [];
+  lines =
+      insertion (jobOn floor (pos 1400) 0)
+      ∷ insertion (jobOn floor (pos 1400) 1)
+      ∷ insertion predictingBeside
+      ∷ insertion (jobOn shift (pos 5) 0)
+      ∷ sealing 1
+      ∷ step 1 2
+      ∷ speculationReport 2 (two (pos 1520) (pos 1480)) 0
+      ∷ step 1 3
+      ∷ step 0 0
+      ∷ step 2 0
+      ∷ step 0 1
+      ∷ step 2 1
+      ∷ step 0 2
+      ∷ ownReport 2 (two (pos 1520) (pos 1480)) 0
+      ∷ [];
+}
+
+-- P18: a batch into which jobs of each mode come, and one with the own run of a predicted write out.
+abbrev planModes : Plan
+planModes = record { heights = pos 1500 ∷ []; lines = [] }
+
+abbrev planPredicted : Plan
+planPredicted = record { heights = pos 1500 ∷ []; lines = insertion (predicting 3) ∷ sealing 1 ∷ step 0 0 ∷ [] }
+
 -- P8's jobs with guessing off.
 abbrev planOff : Plan
 planOff = record {
@@ -274,14 +353,10 @@ planFallen = first 7 plan9 then step 2 0
 abbrev fourth : ℕ → Job
 fourth mode = record {
   kind = outside;
-  parameter = pos 0;
   arity = 4;
-  accesses =
-      record { cell = 0; mode = 0 }
-      ∷ record { cell = 1; mode = 0 }
-      ∷ record { cell = 2; mode = 0 }
-      ∷ record { cell = 3; mode = mode }
-      ∷ [];
+  accesses = to 0 0 ∷ to 1 0 ∷ to 2 0 ∷ to 3 mode ∷ [];
+  parameter = pos 0;
+  predicted = noPredictions;
 }
 
 -- Its own run is out.
@@ -388,6 +463,32 @@ table =
     ∷ settled plan15 2 2 0
     ∷ height plan15 0 (pos 1520)
     ∷ judged planSetOther 2 3
+    -- P16 a prediction: the guess starts at once and is handed it, in mode 1 it has to wait; it stands and is kept. Another
+    -- height: fallen, and the own run is handed that one.
+    ∷ answers (plan16 3) (0 ∷ 0 ∷ 0 ∷ 0 ∷ 0 ∷ 0 ∷ 0 ∷ 0 ∷ [])
+    ∷ receives (first 5 (plan16 3)) 1 (one (pos 1510))
+    ∷ next (first 4 (plan16 1)) (step 1 1) 15
+    ∷ judged (first 7 (plan16 3)) 1 2
+    ∷ settled (plan16 3) 1 2 0
+    ∷ height (plan16 3) 0 (pos 1530)
+    ∷ judged planMissed 1 3
+    ∷ next planMissed (step 4 1) 18
+    ∷ receives (planMissed then step 0 1) 1 (one (pos 1511))
+    -- P17 a prediction beside another cell: one job is looked past; a later guess waits for the report, and takes it; the guess
+    -- falls, and its own run gives the later one what it had taken.
+    ∷ answers plan17 (0 ∷ 0 ∷ 0 ∷ 0 ∷ 0 ∷ 0 ∷ 0 ∷ 0 ∷ 0 ∷ 0 ∷ 0 ∷ 0 ∷ 0 ∷ 0 ∷ [])
+    ∷ next (first 5 plan17) (step 1 3) 15
+    ∷ receives (first 6 plan17) 2 (two (pos 1510) (pos 1480))
+    ∷ past (first 6 plan17) 2 (jobsFrom 1 1) (jobsFrom 1 1)
+    ∷ receives (first 8 plan17) 3 (one (pos 1520))
+    ∷ judged (first 12 plan17) 2 3
+    ∷ receives (first 13 plan17) 2 (two (pos 1500) (pos 1480))
+    ∷ judged plan17 3 2
+    -- P18 modes 3 and 4 of an outside job, mode 3 of a shift; mark 1 of a predicted write.
+    ∷ next planModes (insertion (predicting 3)) 0
+    ∷ next planModes (insertion (predicting 4)) 6
+    ∷ next planModes (insertion (accessing shift (pos 20) (to 0 3))) 8
+    ∷ next planPredicted (ownReport 0 (one (pos 1500)) 1) 16
     -- R79: a guess that only took from another; a guess that its job is settled by.
     ∷ past (first 9 plan9) 2 noJobs noJobs
     ∷ past plan8 1 (jobsFrom 1 0) noJobs
@@ -469,6 +570,9 @@ examples-hold =
     also refl also refl also refl also refl also refl also refl also refl also refl also refl also refl  -- P13
     also refl also refl also refl also refl also refl also refl also refl also refl also refl also refl also refl  -- P14
     also refl also refl also refl also refl also refl also refl also refl also refl  -- P15
+    also refl also refl also refl also refl also refl also refl also refl also refl also refl  -- P16
+    also refl also refl also refl also refl also refl also refl also refl also refl  -- P17
+    also refl also refl also refl also refl  -- P18
     also refl also refl  -- other guesses that are told of
     also refl also refl also refl also refl also refl also refl  -- how a guess is judged
     also refl  -- 12

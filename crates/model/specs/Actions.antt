@@ -2,15 +2,16 @@
 use Prim.Native.Nat.{ℕ, _<_}
 use mathlib.Core.Path.{_≡_, refl}
 use mathlib.Core.Logic.{inl, inr}
-use mathlib.Core.Option.{none}
-use mathlib.Core.Bool.{Bool, true}
+use mathlib.Core.Option.{none, some}
+use mathlib.Core.Bool.{Bool, true, false}
 use lib.IntN.{ℤ}
+use Rattle.laws.specs.SearchLaws.{if-or}
 use Rattle.model.specs.Cases.{none-some}
 use Rattle.model.specs.Update.{update-same}
 use Rattle.model.specs.State.{names, Progress, idle, running, committed, isCommitted}
 use Rattle.model.specs.State.{Origin, Speculation, never, out, stored, discarded, originOf}
 use Rattle.model.specs.State.{State, Open, Ready, Right, Matches, SpeculationOk}
-use Rattle.model.specs.FormerRule.{Lost, Source, Carried}
+use Rattle.model.specs.FormerRule.{Lost, told-beforehand, Source, Carried}
 use Rattle.model.specs.StateLaws.{idle-open, running-open}
 use Rattle.model.specs.InvariantLaws.{matches-is-right}
 use Rattle.model.specs.Commit.{commitState, commit-state-keeps}
@@ -74,13 +75,13 @@ own-start-keeps s j handed carried l e ready matches =
 abbrev pub speculationStart : State → ℕ → Origin → State
 speculationStart s j origin = changeState s j idle (out origin)
 
--- The walk back gives every value its source.
+-- The walk back gives every value its source, where none is a prediction.
 pub speculation-start-keeps : (s : State) (j : ℕ) (origin : Origin)
     → Carried s
     → j < s .jobCount
     → s .progress j ≡ idle
     → s .speculation j ≡ never
-    → Gathered s j origin
+    → (origin .predicted ≡ false → Gathered s j origin)
     → Carried (speculationStart s j origin)
 unfolding isCommitted originOf
 speculation-start-keeps s j origin carried l e g gathered =
@@ -96,10 +97,11 @@ speculation-start-keeps s j origin carried l e g gathered =
     new : ¬ Lost (speculationStart s j origin) j
         → (x : ℕ) → names (s .uses j x) ≡ true → Source (speculationStart s j origin) j x origin
     new valid x n =
-        still-source s j idle (out origin) (carried .right) o refl grow j x origin
-        (rw (update-same (s .speculation) j (out origin) j refl))
-        valid
-        (gathered-source s j origin (carried .right) l o gathered x n)
+        let now-out : originOf (speculationStart s j origin .speculation j) ≡ some origin =
+        rw (update-same (s .speculation) j (out origin) j refl) in
+        still-source s j idle (out origin) (carried .right) o refl grow j x origin now-out valid
+        (gathered-source s j origin (carried .right) l o
+        (gathered (if-or (origin .predicted) (λ t. absurd (valid (told-beforehand now-out t))) (λ f. f))) x n)
 
 -- R53, report own.
 abbrev pub ownReport : State → ℕ → (ℕ → ℤ) → (ℕ → ℤ) → Bool → State

@@ -15,7 +15,7 @@ use Rattle.model.specs.State.{names, Progress, idle, running, committed,
 use Rattle.model.specs.State.{Origin, Speculation, never, out, stored, discarded, originOf, reportAt}
 use Rattle.model.specs.State.{State, effects, before, Open, Ready, Right}
 use Rattle.model.specs.State.{RunOk, SpeculationOk, Invariant}
-use Rattle.model.specs.FormerRule.{Lost, bypassed-wrote, source-discarded}
+use Rattle.model.specs.FormerRule.{Lost, bypassed-wrote, source-discarded, told-beforehand}
 use Rattle.model.specs.FormerRule.{Bypass, Source, forwarded, present, Sourced, Carried}
 use Rattle.model.specs.StateLaws.{open-no-effect, marked-committed}
 
@@ -124,6 +124,7 @@ module _ (s : State) (j : ℕ) (p : Progress) (u : Speculation)
       one-or (grow-origin (grow-all i) e)
       (λ d. inl d)
       (λ e'. inr (source-discarded e' f (grow-discarded (grow-all w) z)))
+  still-lost {i} (told-beforehand e f) = one-or (grow-origin (grow-all i) e) (λ d. inl d) (λ e'. inr (told-beforehand e' f))
 
   -- The same jobs are open, so those looked past are the same.
   still-bypass : (i x : ℕ) (origin : Origin) (first : ℕ) → Bypass s i x origin first → Bypass s' i x origin first

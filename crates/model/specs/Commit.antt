@@ -16,7 +16,7 @@ use Rattle.model.specs.State.{Progress, idle, running, committed, isComm
 use Rattle.model.specs.State.{Origin, Speculation, never, out, stored, discarded, originOf, reportAt}
 use Rattle.model.specs.State.{State, effects, before, Committed, Open, Ready, Orderly, Right}
 use Rattle.model.specs.State.{RunOk, SpeculationOk, Invariant}
-use Rattle.model.specs.FormerRule.{Lost, bypassed-wrote, source-discarded}
+use Rattle.model.specs.FormerRule.{Lost, bypassed-wrote, source-discarded, told-beforehand}
 use Rattle.model.specs.FormerRule.{Bypass, Source, forwarded, present, Sourced, Carried}
 use Rattle.model.specs.StateLaws.{written-named, writes-named, write-then-name}
 use Rattle.model.specs.StateLaws.{open-no-effect, unwritten-no-effect, marked-committed}
@@ -152,6 +152,7 @@ module _ (s : State) (j : ℕ) (handed reported : ℕ → ℤ) (mark : Bool)
         bypassed-wrote e f
         (at-or p j (λ n. clash (marked-committed _ m) (rw n o)) (λ n. rw (progress-other p n) m))
     still-lost (source-discarded e f z) = source-discarded e f z
+    still-lost (told-beforehand e f) = told-beforehand e f
 
     -- A value taken from the guess by which job j is settled is the one that the job reports.
     report-is : (u : Speculation) (x : ℕ) (value : ℤ)

@@ -8,8 +8,9 @@ use Rattle.model.specs.State.{names, mayWrite, writes, maybe, isMarked, 
 use Rattle.model.specs.State.{State, before, Committed, Open, Ready, Right, Invariant}
 use Rattle.model.specs.StateLaws.{write-then-name, writes-may}
 
--- A job that the guess looked past is settled with mark 1, or a guess that it took from is thrown away. The former rule
--- also felled a guess when one that it took from had fallen; that clause is needed nowhere, so more is shown than R185 says.
+-- A job that the guess looked past is settled with mark 1, or a guess that it took from is thrown away; or it was handed a
+-- prediction, which the former rule did not know. That rule also felled a guess when one that it took from had fallen; the
+-- clause is needed nowhere, so more is shown than R185 says.
 pub data Lost (s : State) : ℕ → Type 0 where
   bypassed-wrote : {j i : ℕ} {origin : Origin}
       → originOf (s .speculation j) ≡ some origin
@@ -20,6 +21,10 @@ pub data Lost (s : State) : ℕ → Type 0 where
       → originOf (s .speculation j) ≡ some origin
       → origin .source x ≡ some w
       → s .speculation w ≡ discarded
+      → Lost s j
+  told-beforehand : {j : ℕ} {origin : Origin}
+      → originOf (s .speculation j) ≡ some origin
+      → origin .predicted ≡ true
       → Lost s j
 
 -- From job `first` on, each open job before j that may write cell x is a maybe-writer of it and was looked past. It

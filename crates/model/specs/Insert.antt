@@ -12,7 +12,7 @@ use Rattle.model.specs.State.{Use, Progress, idle, running, committed}
 use Rattle.model.specs.State.{Origin, never, originOf}
 use Rattle.model.specs.State.{State, effects, before, Committed, Ready, Right}
 use Rattle.model.specs.State.{RunOk, Invariant}
-use Rattle.model.specs.FormerRule.{Lost, bypassed-wrote, source-discarded}
+use Rattle.model.specs.FormerRule.{Lost, bypassed-wrote, source-discarded, told-beforehand}
 use Rattle.model.specs.FormerRule.{Bypass, Source, forwarded, present, Sourced, Carried}
 use Rattle.model.specs.StateLaws.{open-no-effect, idle-open}
 
@@ -93,6 +93,7 @@ module _ (s : State) (job : ℕ → Use) (inv : Invariant s) (blank : Blank s) w
   still-lost : {j : ℕ} → Lost s j → Lost s' j
   still-lost (bypassed-wrote e f m) = bypassed-wrote e f m
   still-lost (source-discarded e f z) = source-discarded e f z
+  still-lost (told-beforehand e f) = told-beforehand e f
 
   still-bypass : (j x : ℕ) (origin : Origin) (first : ℕ)
       → j < s .jobCount → Bypass s j x origin first → Bypass s' j x origin first

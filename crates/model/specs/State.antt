@@ -71,10 +71,11 @@ effect mode x idle = none
 effect mode x (running handed) = none
 effect mode x (committed handed reported mark) = given (wroteCell mode mark) (reported x)
 
--- Where a guess comes from: the values handed to it, and, for the former rule alone, the jobs it looked past and for each
--- cell the job from whose guess the value was taken, or none for the present cell.
+-- Where a guess comes from: the values handed to it, and, for the former rule alone, whether a prediction is among them, the
+-- jobs it looked past and for each cell the job from whose guess the value was taken, or none for the present cell.
 pub record Origin : Type 0 where
   pub handed : ℕ → ℤ
+  pub predicted : Bool
   pub bypassed : ℕ → Bool
   pub source : ℕ → Option ℕ
 

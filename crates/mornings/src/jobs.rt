@@ -2,6 +2,7 @@
 
 use dependence::Access;
 use dependence::Job;
+use dependence::PREDICTED_WRITE;
 use dependence::READ;
 use dependence::UNCERTAIN_WRITE;
 use dependence::WRITE;
@@ -14,9 +15,10 @@ fn of_kind(kind: u8, parameter: i32, arity: u8, a: Access, b: Access, c: Access)
     };
     Job {
         kind,
-        parameter,
         arity,
         accesses: [a, b, c, unused],
+        parameter,
+        predicted: [0; 4],
     }
 }
 
@@ -53,4 +55,15 @@ pub fn floor() -> Job {
 /// Puts the mean of cells 0 and 1 into cell 2.
 pub fn mean() -> Job {
     of_kind(kinds::MEAN, 0, 3, write(2), read(0), read(1))
+}
+
+/// An outside job that writes cell 0, and predicts the height that it will find there.
+pub fn forecast(height: i32) -> Job {
+    let predicted_write = Access {
+        cell: 0,
+        mode: PREDICTED_WRITE,
+    };
+    let mut job = of_kind(0, 0, 1, predicted_write, read(0), read(0));
+    job.predicted = [height, 0, 0, 0];
+    job
 }

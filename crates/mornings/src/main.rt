@@ -1,6 +1,7 @@
-//! Two mornings of the harbour, a third by the chooser and one with late jobs, told call by call.
+//! Two mornings of the harbour, a third by the chooser, one with late jobs and two with a forecast, told call by call.
 
 mod chosen;
+mod forecast;
 mod jobs;
 mod late;
 mod tell;
@@ -12,4 +13,5 @@ fn main() {
     week::thursday();
     chosen::morning();
     late::morning();
+    forecast::mornings();
 }

@@ -77,18 +77,41 @@ pub fn start_guess(batch: Batch, j: usize) -> Batch {
     started(b"start guess, job ", j, batch.start_speculation(j))
 }
 
-pub fn report_own(batch: Batch, j: usize) -> Batch {
-    let report = report_on(batch, j);
+fn own_reported(batch: Batch, j: usize, report: kinds::Outcome) -> Batch {
     let values = report.values;
     let answer = batch.report_own(j, values, report.wrote);
     reported(b"report own, job ", j, report, answer)
 }
 
-pub fn report_guess(batch: Batch, j: usize) -> Batch {
-    let report = report_on(batch, j);
+fn guess_reported(batch: Batch, j: usize, report: kinds::Outcome) -> Batch {
     let values = report.values;
     let answer = batch.report_speculation(j, values, report.wrote);
     reported(b"report guess, job ", j, report, answer)
+}
+
+pub fn report_own(batch: Batch, j: usize) -> Batch {
+    own_reported(batch, j, report_on(batch, j))
+}
+
+pub fn report_guess(batch: Batch, j: usize) -> Batch {
+    guess_reported(batch, j, report_on(batch, j))
+}
+
+/// What an outside job of one cell reports.
+fn one_height(height: i32) -> kinds::Outcome {
+    kinds::Outcome {
+        refusal: 0,
+        values: [height, 0, 0, 0],
+        wrote: 0,
+    }
+}
+
+pub fn report_own_height(batch: Batch, j: usize, height: i32) -> Batch {
+    own_reported(batch, j, one_height(height))
+}
+
+pub fn report_guess_height(batch: Batch, j: usize, height: i32) -> Batch {
+    guess_reported(batch, j, one_height(height))
 }
 
 pub fn settle(batch: Batch, j: usize) -> Batch {

@@ -23,6 +23,9 @@ pub fn what_to_look_for() {
         b"Monday again: jobs that come late, at whatever moment, are the last of the list.\n",
     );
     say::text(
+        b"Two forecasts: a guess is handed a predicted height, and a wrong one changes no height at the end.\n",
+    );
+    say::text(
         b"After each call: 0 or the refusal, then what was handed out or reported, or the job's first cell after it.\n",
     );
 }

@@ -11,7 +11,7 @@ use Rattle.text.specs.SameText.{sameText}
 use Rattle.number.specs.Numbers.{allDigits, valueAfter, hasLeadingZero, naturalUpTo, negativeOf, unsignedOf, signedOf}
 use Rattle.steplines.specs.StepLines.{stepLineOf}
 use Rattle.dependence.specs.declared.Job.{Job}
-use Rattle.dependence.specs.Job.{noAccess}
+use Rattle.dependence.specs.Job.{noAccess, noPredictions}
 use Rattle.admission.specs.Admission.{jobRefusal}
 use Rattle.jobset.specs.JobSet.{bit, hasJob, reachesTo}
 use Rattle.engine.specs.Form.{jobOut, inForm}
@@ -47,6 +47,7 @@ floorJob =
       parameter = pos 1400;
       arity = 1;
       accesses = record { cell = 0; mode = 2 } ∷ noAccess ∷ noAccess ∷ noAccess ∷ [];
+      predicted = noPredictions;
     }
 
 abbrev pub shiftJob : Job
@@ -56,6 +57,7 @@ shiftJob =
       parameter = pos 20;
       arity = 1;
       accesses = record { cell = 0; mode = 1 } ∷ noAccess ∷ noAccess ∷ noAccess ∷ [];
+      predicted = noPredictions;
     }
 
 -- It has no fault. The batch is opened with the two heights, gets the two jobs and is sealed with speculation on; the

@@ -8,7 +8,7 @@ use Rattle.text.specs.Pieces.{pieces}
 use Rattle.text.specs.SameText.{sameText}
 use Rattle.number.specs.Numbers.{allDigits, valueAfter, hasLeadingZero, naturalUpTo, negativeOf, unsignedOf, signedOf}
 use Rattle.dependence.specs.declared.Access.{Access}
-use Rattle.dependence.specs.Job.{noAccess}
+use Rattle.dependence.specs.Job.{noAccess, noPredictions}
 use Rattle.plan.specs.declared.job_lines.JobLine.{JobLine}
 use Rattle.plan.specs.Lines.{noCell, noJobLine, cellLineOf, cellFieldOf, jobWith, jobLineOf}
 use Rattle.plan.specs.Plan.{start, outOfForm, nextPart, cellNamesRead, lineRead, ended, linesRead, planOf}
@@ -41,7 +41,17 @@ minus-cell = refl
 
 abbrev asks : ℕ → ℤ → ℕ → Access → Access → Access → JobLine
 asks kind p arity a b c =
-    record { ok = true; job = record { kind = kind; parameter = p; arity = arity; accesses = a ∷ b ∷ c ∷ noAccess ∷ [] } }
+    record {
+      ok = true;
+      job =
+          record {
+            kind = kind;
+            arity = arity;
+            accesses = a ∷ b ∷ c ∷ noAccess ∷ [];
+            parameter = p;
+            predicted = noPredictions;
+          };
+    }
 
 abbrev on : ℕ → ℕ → Access
 on cell mode = record { cell = cell; mode = mode }

@@ -13,7 +13,7 @@ use Rattle.number.specs.declared.Number.{Number}
 use Rattle.number.specs.declared.Number.the-variants as number
 use Rattle.steplines.specs.StepLines.{fieldCount, fieldOf}
 use Rattle.dependence.specs.declared.Job.{Job}
-use Rattle.dependence.specs.Job.{noAccess, blankJob}
+use Rattle.dependence.specs.Job.{noAccess, noPredictions, blankJob}
 use Rattle.admission.specs.Admission.{kindModes}
 use Rattle.plan.specs.declared.cell_lines.CellLine.{CellLine}
 use Rattle.plan.specs.declared.job_lines.CellField.{CellField}
@@ -96,6 +96,7 @@ jobWith kind parameter cells =
           ∷ record { cell = cells .c; mode = modeAt (capped kind) 2 }
           ∷ noAccess
           ∷ [];
+      predicted = noPredictions;
     }
 
 -- A line that is not in form.

@@ -144,9 +144,10 @@ fn job_with(number: u64, parameter: i32, cells: Cells) -> Job
     let none = Access { cell: 0, mode: 0 };
     Job {
         kind,
-        parameter,
         arity: cells.arity,
         accesses: [a, b, c, none],
+        parameter,
+        predicted: [0; 4],
     }
 }
 
@@ -157,9 +158,10 @@ fn no_job_line() -> JobLine
     let none = Access { cell: 0, mode: 0 };
     let job = Job {
         kind: 0,
-        parameter: 0,
         arity: 0,
         accesses: [none; 4],
+        parameter: 0,
+        predicted: [0; 4],
     };
     JobLine { ok: false, job }
 }

@@ -91,7 +91,7 @@ pub fn records() {
     counts(b"129 jobs", 4, 129);
     switches(b"sealed 2", 2, 1);
     switches(b"guess switch 2", 1, 2);
-    held(b"a job with mode 3", jobs::of_one(0, 0, 3));
+    held(b"a job with mode 4", jobs::of_one(0, 0, 4));
     held(b"a job of kind 7", jobs::of_one(7, 0, READ));
     states(b"settled 3", 3, 0, 2);
     states(b"own run 2", 0, 2, 2);

@@ -18,9 +18,10 @@ pub fn of_kind(kind: u8, arity: u8, a: Access, b: Access) -> Job {
     };
     Job {
         kind,
-        parameter: 20,
         arity,
         accesses: [a, b, c, d],
+        parameter: 20,
+        predicted: [0; 4],
     }
 }
 

@@ -3,6 +3,7 @@
 use crate::batches;
 use crate::batches::Point;
 use crate::jobs;
+use dependence::PREDICTED_WRITE;
 use dependence::READ;
 use dependence::UNCERTAIN_WRITE;
 use engine::Batch;
@@ -97,9 +98,16 @@ pub fn of_a_job() {
     access(b"insert an access to cell 3: ", 0, 3, READ);
     access(b"insert an access to cell 4: ", 0, 4, READ);
     access(b"insert an access of mode 2: ", 0, 0, UNCERTAIN_WRITE);
-    access(b"insert an access of mode 3: ", 0, 0, 3);
+    access(b"insert an access of mode 3: ", 0, 0, PREDICTED_WRITE);
+    access(b"insert an access of mode 4: ", 0, 0, 4);
     into_opened(b"insert a job with cell 0 twice: ", jobs::twice());
     access(b"insert a shift that only reads: ", kinds::SHIFT, 0, READ);
+    access(
+        b"insert a shift with a prediction: ",
+        kinds::SHIFT,
+        0,
+        PREDICTED_WRITE,
+    );
     access(b"insert a job of kind 7: ", 7, 0, READ);
     result(b"result of kind 0: ", 0);
     result(b"result of kind 7: ", 7);

@@ -12,7 +12,7 @@ use Rattle.laws.specs.SameHeight.{sameHeight}
 use Rattle.laws.specs.Rows.{AllHold, end, _also_}
 use Rattle.dependence.specs.declared.Access.{Access}
 use Rattle.dependence.specs.declared.Job.{Job}
-use Rattle.dependence.specs.Job.{noAccess, jobAt}
+use Rattle.dependence.specs.Job.{noAccess, noPredictions, jobAt}
 use Rattle.dependence.specs.Conflict.{touches, conflicts}
 use Rattle.rules.specs.Values.{valueAt}
 use Rattle.rules.specs.Walk.{sourceBelow}
@@ -33,21 +33,39 @@ Holds (answers snapshot call number) = refusalOf snapshot call ≡ number
 abbrev access : ℕ → ℕ → Access
 access mode cell = record { mode = mode; cell = cell }
 
+abbrev accessing : ℕ → List Access → Job
+accessing arity accesses =
+    record { kind = 0; arity = arity; accesses = accesses; parameter = pos 0; predicted = noPredictions }
+
 abbrev none : Job
-none = record { kind = 0; parameter = pos 0; arity = 0; accesses = noAccess ∷ noAccess ∷ noAccess ∷ noAccess ∷ [] }
+none = accessing 0 (noAccess ∷ noAccess ∷ noAccess ∷ noAccess ∷ [])
 
 abbrev one : ℕ → ℕ → Job
-one mode cell =
-    record { kind = 0; parameter = pos 0; arity = 1; accesses = access mode cell ∷ noAccess ∷ noAccess ∷ noAccess ∷ [] }
+one mode cell = accessing 1 (access mode cell ∷ noAccess ∷ noAccess ∷ noAccess ∷ [])
 
 -- Reads of cells 1, 2 and 3, and behind them the mode on the cell.
 abbrev four : ℕ → ℕ → Job
-four mode cell =
-    record { kind = 0; parameter = pos 0; arity = 4; accesses = access 0 1 ∷ access 0 2 ∷ access 0 3 ∷ access mode cell ∷ [] }
+four mode cell = accessing 4 (access 0 1 ∷ access 0 2 ∷ access 0 3 ∷ access mode cell ∷ [])
 
--- Jobs 0 to 3 are a maybe-writer, two writers and a reader of cell 0. Jobs 4 and 5 conflict with no job.
+-- A predicted write of cell 0, and a read of cell 5.
+abbrev mixed : Job
+mixed = accessing 2 (access 3 0 ∷ access 0 5 ∷ noAccess ∷ noAccess ∷ [])
+
+-- A shift in the mode.
+abbrev shiftIn : ℕ → Job
+shiftIn mode =
+    record {
+      kind = 2;
+      arity = 1;
+      accesses = access mode 0 ∷ noAccess ∷ noAccess ∷ noAccess ∷ [];
+      parameter = pos 20;
+      predicted = noPredictions;
+    }
+
+-- Jobs 0 to 3 are a maybe-writer, two writers and a reader of cell 0. Jobs 4 and 5 conflict with no job before them. Jobs 6
+-- and 7 predict the height of cell 0; job 8 reads it.
 abbrev jobs : List Job
-jobs = one 2 0 ∷ one 1 0 ∷ one 1 0 ∷ one 0 0 ∷ four 2 4 ∷ four 1 5 ∷ []
+jobs = one 2 0 ∷ one 1 0 ∷ one 1 0 ∷ one 0 0 ∷ four 2 4 ∷ four 1 5 ∷ one 3 0 ∷ mixed ∷ one 0 0 ∷ []
 
 -- The present heights, by cell.
 abbrev heights : List ℤ
@@ -123,6 +141,10 @@ guessingOff standing = moment 6 true false standing
 abbrev guessingOn : List Standing → Snapshot
 guessingOn standing = moment 6 true true standing
 
+-- With the jobs that predict: how the writer of cell 5, these two and the job behind them stand, where the others are idle.
+abbrev predicting : Standing → Standing → Standing → Standing → Snapshot
+predicting writer first second third = moment 9 true true (idle ∷ idle ∷ idle ∷ idle ∷ idle ∷ writer ∷ first ∷ second ∷ third ∷ [])
+
 abbrev pub table : List Example
 table =
     -- insert
@@ -138,6 +160,13 @@ table =
     ∷ answers (moment 128 true true []) (insert (one 0 0)) 3
     ∷ answers (guessingOff []) (insert none) 4
     ∷ answers (moment 128 true true []) (insert none) 3
+    -- modes, and what a built-in kind takes of them
+    ∷ answers (unsealed 6) (insert (one 3 0)) 0
+    ∷ answers (unsealed 6) (insert (one 4 0)) 6
+    ∷ answers (unsealed 6) (insert (four 4 5)) 6
+    ∷ answers (unsealed 6) (insert (shiftIn 1)) 0
+    ∷ answers (unsealed 6) (insert (shiftIn 3)) 8
+    ∷ answers (unsealed 6) (insert (shiftIn 4)) 6
     -- seal
     ∷ answers (unsealed 0) (seal 0) 0
     ∷ answers (unsealed 6) (seal 1) 0
@@ -186,6 +215,13 @@ table =
     ∷ answers (guessingOff (kept ∷ [])) (startSpeculation 0) 12
     ∷ answers (guessingOn (running ∷ [])) (startSpeculation 0) 13
     ∷ answers (guessingOn (idle ∷ idle ∷ guessed ∷ [])) (startSpeculation 2) 13
+    -- a predicted cell is not waited for; beside it another cell is
+    ∷ answers (predicting idle idle idle idle) (startSpeculation 6) 0
+    ∷ answers (predicting idle idle idle idle) (startSpeculation 7) 15
+    ∷ answers (predicting kept idle idle idle) (startSpeculation 7) 0
+    -- a later job meets a write, with the report of its guess or without
+    ∷ answers (predicting kept stored guessed idle) (startSpeculation 8) 15
+    ∷ answers (predicting kept idle stored idle) (startSpeculation 8) 0
     -- report own
     ∷ answers (guessingOn (running ∷ [])) (reportOwn 0 [] 0) 0
     ∷ answers (guessingOn (running ∷ [])) (reportOwn 0 [] 1) 0
@@ -199,6 +235,9 @@ table =
     -- the only maybe-write stands in the fourth place; a write there is none
     ∷ answers (guessingOn (idle ∷ idle ∷ idle ∷ idle ∷ running ∷ [])) (reportOwn 4 [] 1) 0
     ∷ answers (guessingOn (idle ∷ idle ∷ idle ∷ idle ∷ idle ∷ running ∷ [])) (reportOwn 5 [] 1) 16
+    -- nor is a predicted write a maybe-write
+    ∷ answers (predicting idle running idle idle) (reportOwn 6 [] 0) 0
+    ∷ answers (predicting idle running idle idle) (reportOwn 6 [] 1) 16
     -- report guess
     ∷ answers (guessingOn (idle ∷ guessed ∷ [])) (reportSpeculation 1 [] 0) 0
     ∷ answers (guessingOn (guessed ∷ [])) (reportSpeculation 0 [] 1) 0
@@ -241,7 +280,7 @@ unfolding refusalOf firstOf isReady isValid isInvalid sourceBelow conflicts touc
 examples-hold =
     -- insert
     refl also refl also refl also refl also refl also refl also refl also refl also refl also refl
-    also refl
+    also refl also refl also refl also refl also refl also refl also refl
     -- seal
     also refl also refl also refl also refl also refl
     -- start own
@@ -250,10 +289,10 @@ examples-hold =
     -- start guess
     also refl also refl also refl also refl also refl also refl also refl also refl also refl also refl
     also refl also refl also refl also refl also refl also refl also refl also refl also refl also refl
-    also refl also refl
+    also refl also refl also refl also refl also refl also refl also refl
     -- report own
     also refl also refl also refl also refl also refl also refl also refl also refl also refl also refl
-    also refl
+    also refl also refl also refl
     -- report guess
     also refl also refl also refl also refl also refl also refl also refl also refl also refl also refl
     also refl

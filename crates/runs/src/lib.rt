@@ -6,9 +6,10 @@ ghost use Prim.Native.Nat.{_<_};
 ghost use lib.Dec.{eqb};
 ghost use lib.ListN.{length};
 ghost use Rattle.laws.specs.SameHeight.{sameHeight};
-ghost use Rattle.dependence.specs.Job.{inUse, accessAt, anyAccess};
-ghost use Rattle.rules.specs.Values.{valueAt, presentAt, presentValues, isStale, isUncertain, wroteRefused, writesAt, storedAt, storedValues, writeAt, writeBack, valueFor};
+ghost use Rattle.dependence.specs.Job.{inUse, accessAt, predictsAt, anyAccess};
+ghost use Rattle.rules.specs.Values.{valueAt, presentAt, presentValues, presumedAt, presumedValues, isStale, isUncertain, wroteRefused, writesAt, storedAt, storedValues, writeAt, writeBack, valueFor};
 use dependence::Job;
+use dependence::PREDICTED_WRITE;
 use dependence::UNCERTAIN_WRITE;
 use dependence::WRITE;
 
@@ -37,6 +38,40 @@ pub fn present_values(job: Job, cells: [i32; 64]) -> [i32; 4]
     let b = present_at(job, cells, 1);
     let c = present_at(job, cells, 2);
     let d = present_at(job, cells, 3);
+    [a, b, c, d]
+}
+
+/// Whether the place is in use and its access a predicted write.
+fn predicts_at(job: Job, place: usize) -> bool
+    requires { ⌜ place < 4 ⌝ }
+    ensures { λ r. ⌜ r ≡ predictsAt job place ⌝ }
+{
+    if (job.arity as usize) <= place {
+        return false;
+    }
+    let access = job.accesses[place];
+    access.mode == PREDICTED_WRITE
+}
+
+/// R46: the prediction at the place, where there is one, else the present value.
+fn presumed_at(job: Job, cells: [i32; 64], place: usize) -> i32
+    requires { ⌜ place < 4 ⌝ }
+    ensures { λ r. ⌜ r ≡ presumedAt job cells place ⌝ }
+{
+    if predicts_at(job, place) {
+        return job.predicted[place];
+    }
+    present_at(job, cells, place)
+}
+
+/// What a speculative run goes by where it meets no writer, a value for each of the job's places.
+pub fn presumed_values(job: Job, cells: [i32; 64]) -> [i32; 4]
+    ensures { λ r. ⌜ r ≡ presumedValues job cells ⌝ }
+{
+    let a = presumed_at(job, cells, 0);
+    let b = presumed_at(job, cells, 1);
+    let c = presumed_at(job, cells, 2);
+    let d = presumed_at(job, cells, 3);
     [a, b, c, d]
 }
 
@@ -91,7 +126,7 @@ pub fn value_for(job: Job, values: [i32; 4], cell: u8) -> i32
     value_or(job, values, cell, 3, c)
 }
 
-/// Whether the run writes the cell at the place: a write always, an uncertain write if the report says so.
+/// Whether the run writes the cell at the place: a write always, predicted or not, an uncertain write if the report says so.
 fn writes_at(job: Job, wrote: u8, place: usize) -> bool
     requires { ⌜ place < 4 ⌝ }
     ensures { λ r. ⌜ r ≡ writesAt job wrote place ⌝ }
@@ -100,7 +135,7 @@ fn writes_at(job: Job, wrote: u8, place: usize) -> bool
         return false;
     }
     let access = job.accesses[place];
-    if access.mode == WRITE {
+    if dependence::counts_as(access.mode) == WRITE {
         return true;
     }
     if access.mode != UNCERTAIN_WRITE {

@@ -5,7 +5,7 @@ use Prim.Native.Nat.{ℕ}
 use mathlib.Core.List.{List, [], _∷_, _++_}
 
 abbrev batch : List ℕ
-batch = 10376 ∷ 0 ∷ 1 ∷ 2 ∷ 3 ∷ 4 ∷ 260 ∷ 2824 ∷ 9992 ∷ 10120 ∷ 10248 ∷ []
+batch = 11912 ∷ 0 ∷ 1 ∷ 2 ∷ 3 ∷ 4 ∷ 260 ∷ 4360 ∷ 11528 ∷ 11656 ∷ 11784 ∷ []
 
 abbrev run : List ℕ
 run = 56 ∷ 0 ∷ 16 ∷ 32 ∷ 33 ∷ 40 ∷ []
@@ -14,7 +14,7 @@ abbrev jobSet : List ℕ
 jobSet = 16 ∷ 0 ∷ 8 ∷ []
 
 abbrev job : List ℕ
-job = 20 ∷ 0 ∷ 4 ∷ 8 ∷ 9 ∷ []
+job = 32 ∷ 0 ∷ 1 ∷ 2 ∷ 12 ∷ 16 ∷ []
 
 abbrev access : List ℕ
 access = 2 ∷ 0 ∷ 1 ∷ []
@@ -26,10 +26,10 @@ abbrev handed : List ℕ
 handed = 20 ∷ 0 ∷ 4 ∷ []
 
 abbrev started : List ℕ
-started = 10400 ∷ 0 ∷ 4 ∷ 24 ∷ []
+started = 11936 ∷ 0 ∷ 4 ∷ 24 ∷ []
 
 abbrev answer : List ℕ
-answer = 10384 ∷ 0 ∷ 8 ∷ []
+answer = 11920 ∷ 0 ∷ 8 ∷ []
 
 abbrev choice : List ℕ
 choice = 4 ∷ 0 ∷ 1 ∷ 2 ∷ 3 ∷ []
@@ -38,7 +38,7 @@ abbrev cellAnswer : List ℕ
 cellAnswer = 8 ∷ 0 ∷ 4 ∷ []
 
 abbrev jobAnswer : List ℕ
-jobAnswer = 60 ∷ 0 ∷ 1 ∷ 2 ∷ 3 ∷ 4 ∷ 5 ∷ 8 ∷ 24 ∷ 40 ∷ []
+jobAnswer = 72 ∷ 0 ∷ 1 ∷ 2 ∷ 3 ∷ 4 ∷ 5 ∷ 8 ∷ 24 ∷ 40 ∷ []
 
 abbrev batchAnswer : List ℕ
 batchAnswer = 6 ∷ 0 ∷ 1 ∷ 2 ∷ 3 ∷ 4 ∷ 5 ∷ []
@@ -66,7 +66,7 @@ speculationAnswer = 7 ∷ 0 ∷ 1 ∷ 4 ∷ []
 
 abbrev pub layout : List ℕ
 layout =
-    4
+    5
     ∷ batch ++ run ++ jobSet ++ job ++ access
     ++ report ++ handed ++ started ++ answer
     ++ choice ++ cellAnswer ++ jobAnswer ++ batchAnswer ++ outcome ++ planAnswer

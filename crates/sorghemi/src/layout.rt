@@ -5,21 +5,21 @@ ghost use lib.ListN.{getD};
 ghost use Rattle.sorghemi.specs.Layout.{layout};
 
 /// The version of the list, then of each struct its size and the offsets of its fields in their order.
-const NUMBERS: [u32; 94] = [
+const NUMBERS: [u32; 95] = [
     // the version
-    4,
+    5,
     // Batch
-    10376,
+    11912,
     0,
     1,
     2,
     3,
     4,
     260,
-    2824,
-    9992,
-    10120,
-    10248,
+    4360,
+    11528,
+    11656,
+    11784,
     // Run
     56,
     0,
@@ -32,11 +32,12 @@ const NUMBERS: [u32; 94] = [
     0,
     8,
     // Job
-    20,
+    32,
     0,
-    4,
-    8,
-    9,
+    1,
+    2,
+    12,
+    16,
     // Access
     2,
     0,
@@ -50,12 +51,12 @@ const NUMBERS: [u32; 94] = [
     0,
     4,
     // Started
-    10400,
+    11936,
     0,
     4,
     24,
     // Answer
-    10384,
+    11920,
     0,
     8,
     // Choice
@@ -69,7 +70,7 @@ const NUMBERS: [u32; 94] = [
     0,
     4,
     // JobAnswer
-    60,
+    72,
     0,
     1,
     2,
@@ -129,7 +130,7 @@ pub extern "C" fn sorghemi_layout(place: usize) -> u32
     ensures { λ r. ⌜ r ≡ getD layout place 0 ⌝ }
 {
     let numbers = NUMBERS;
-    if place < 94 {
+    if place < 95 {
         return numbers[place];
     }
     0

@@ -1,6 +1,6 @@
 -- What asking a guess tells is what the ledger says of it, and while a job that it looked past is open its job is not ready:
 -- the proof.
-use Prim.Native.Nat.{ℕ, _<_, _≤_}
+use Prim.Native.Nat.{ℕ, zero, suc, _<_, _≤_}
 use native.Mathlib.Omega.{arith}
 use mathlib.Core.Bool.{Bool, true, false, cond, not, _&&_}
 use mathlib.Core.List.{List, [], _∷_}
@@ -9,16 +9,16 @@ use mathlib.Core.Path.{_≡_, refl, sym, ap, ap₂, _∙_}
 use lib.Dec.{eqb, leb, ltb}
 use lib.IntN.{ℤ}
 use lib.ListN.{getD}
-use borrow.Author.Tests.{eqb-true}
+use borrow.Author.Tests.{eqb-true, ne-eqb}
 use Rattle.laws.specs.SearchLaws.{clash, and-left, and-right, any-find, any-found}
 use Rattle.dependence.specs.declared.Job.{Job}
-use Rattle.dependence.specs.Job.{inUse, accessAt}
+use Rattle.dependence.specs.Job.{isRead, countsAs, inUse, accessAt}
 use Rattle.dependence.specs.Conflict.{conflicts}
 use Rattle.dependence.specs.ConflictLaws.{writer-conflicts}
 use Rattle.jobset.specs.declared.JobSet.{JobSet}
 use Rattle.jobset.specs.JobSet.{hasJob}
 use Rattle.jobset.specs.JobSetLaws.{has-empty}
-use Rattle.rules.specs.Walk.{accessIs, bypassAt, bypasses}
+use Rattle.rules.specs.Walk.{accessIs, looksBack, bypassAt, bypasses}
 use Rattle.rules.specs.Speculation.{waits, isReady}
 use Rattle.rules.specs.Call.{Call, insert, seal, startOwn, startSpeculation, reportOwn, reportSpeculation, commit}
 use Rattle.engine.specs.declared.Batch.{Batch}
@@ -69,20 +69,26 @@ module _ {b : Batch} {l : Ledger} (agree : Faithful b l) (j : ℕ) where
         «open» = told-same (openAt held (b .committed)) (isOpen l j) open-is k;
       })
 
+-- What counts as a maybe-write is no read.
+no-read : (mode : ℕ) → countsAs mode ≡ 2 → isRead mode ≡ false
+no-read zero e = absurd (omega arith)
+no-read (suc mode) e = ne-eqb (suc mode) 0 (λ q. omega arith)
+
 -- R184. A guess looks past a job only by a cell that both have and that the earlier one maybe-writes, so the two conflict.
 bypass-conflicts : (job : ℕ → Job) (committed : ℕ → Bool) (j i : ℕ) → bypasses job committed j i ≡ true
     → conflicts (job i) (job j) ≡ true
 bypass-conflicts job committed j i e =
     let p = any-find 4 (bypassAt job committed j i) (and-right (ltb i j) _ e) in
-    let used = and-left (inUse (job j) (p .place)) _ (p .holds) in
+    let used = and-left (inUse (job j) (p .place)) _ (and-left (looksBack (job j) (p .place)) _ (p .holds)) in
     let cell = accessAt (job j) (p .place) .cell in
-    let met = and-right (leb _ i) _ (and-right (inUse (job j) (p .place)) _ (p .holds)) in
+    let met = and-right (leb _ i) _ (and-right (looksBack (job j) (p .place)) _ (p .holds)) in
     let q = any-find 4 (λ k. inUse (job i) k && accessIs 2 cell (accessAt (job i) k)) (and-right (not (committed i)) _ met) in
     let access = and-right (inUse (job i) (q .place)) _ (q .holds) in
     let same = eqb-true (accessAt (job i) (q .place) .cell) cell (and-left (eqb (accessAt (job i) (q .place) .cell) cell) _ access) in
-    let mode = eqb-true (accessAt (job i) (q .place) .mode) 2 (and-right (eqb (accessAt (job i) (q .place) .cell) cell) _ access) in
+    let mode = eqb-true (countsAs (accessAt (job i) (q .place) .mode)) 2 (and-right (eqb (accessAt (job i) (q .place) .cell) cell) _ access) in
     writer-conflicts (job i) (job j) (q .place) (p .place) (q .below) (p .below)
-    (and-left (inUse (job i) (q .place)) _ (q .holds)) used same (rw mode)
+    (and-left (inUse (job i) (q .place)) _ (q .holds)) used same
+    (rw (no-read (accessAt (job i) (q .place) .mode) mode))
 
 -- So in every ledger that a list of calls leads to the jobs that a guess looked past conflict with its job.
 abbrev PastConflicts : Ledger → Type 0

@@ -10,6 +10,7 @@ use borrow.Author.Tests.{ne-eqb, eqb-true}
 use Rattle.laws.specs.Search.{anyBelow}
 use Rattle.laws.specs.SearchLaws.{any-found, clash, or-true}
 use Rattle.dependence.specs.declared.Job.{Job}
+use Rattle.dependence.specs.Job.{predicts}
 use Rattle.admission.specs.AdmissionLaws.{admitted-distinct}
 use Rattle.rules.specs.Values.{valueAt}
 use Rattle.rules.specs.Snapshot.{isDiscarded, isLive}
@@ -19,7 +20,7 @@ use Rattle.engine.specs.declared.Batch.{Batch}
 use Rattle.engine.specs.Ask.{askedJob}
 use Rattle.model.specs.State.{Origin, discarded, originOf, State, Open}
 use Rattle.model.specs.InvariantLaws.{present-is-before}
-use Rattle.model.specs.FormerRule.{Lost, bypassed-wrote, source-discarded, sourced-is-right}
+use Rattle.model.specs.FormerRule.{Lost, bypassed-wrote, source-discarded, told-beforehand, sourced-is-right}
 use Rattle.claims.specs.Ledger.{Guess, GuessEntry, never, entered, reported, struck, Ledger}
 use Rattle.claims.specs.Ledger.{isSome, countedMark, guessPhase, guessBypassed, guessSource, guessHanded}
 use Rattle.claims.specs.Enter.{snapshotOfLedger}
@@ -69,8 +70,9 @@ or-first : (s t : Bool) → s ≡ true → (s || t) ≡ true
 or-first true t e = refl
 or-first false t e = clash e refl
 
--- What the model calls lost fell by the former rule.
-module _ {b : Batch} {l : Ledger} (agree : Faithful b l) (j : ℕ) (g : Live (l .job j) (l .entry j .guess)) where
+-- What the model calls lost fell by the former rule, where nothing was predicted.
+module _ {b : Batch} {l : Ledger} (agree : Faithful b l) (j : ℕ) (plain : predicts (l .job j) ≡ false)
+    (g : Live (l .job j) (l .entry j .guess)) where
   abbrev s : State
   s = stateOf l (b .cells)
 
@@ -104,6 +106,7 @@ module _ {b : Batch} {l : Ledger} (agree : Faithful b l) (j : ℕ) (g : Live (l 
   lost-fell (source-discarded {w = w} {x = x} e f z) =
       by-source w (source-place (l .job j) (g .of) x w (ap (λ (o : Origin). o .source x) (origin-is e) ∙ f))
       (discarded-struck (l .job w) (l .entry w .guess) z)
+  lost-fell (told-beforehand e f) = clash (ap (λ (o : Origin). o .predicted) (origin-is e) ∙ f) plain
 
 module _ {b : Batch} {l : Ledger} (sound : Sound b l) (j : ℕ) (stood : StoodFormerly l j) where
   -- It was handed what the jobs before it left, which are the present heights,
@@ -114,7 +117,7 @@ module _ {b : Batch} {l : Ledger} (sound : Sound b l) (j : ℕ) (stood : StoodFo
       let unsettled : Open s j = progress-committed (l .job j) (l .entry j .own) (l .entry j .counted) ∙ ap isSome (stood .unsettled) in
       let right =
       sourced-is-right s (sound .carried .sourced) j (originFor (l .job j) (g .of)) (g .known) unsettled
-      (ready-says l (b .cells) j (stood .ready)) (λ lost. clash (lost-fell (sound .agree) j g lost) (stood .not-fallen))
+      (ready-says l (b .cells) j (stood .ready)) (λ lost. clash (lost-fell (sound .agree) j (stood .unpredicted) g lost) (stood .not-fallen))
       in
       matches-fresh b l (sound-replayed sound) j (g .of) (g .handed)
       (admitted-distinct (l .job j) (length (l .heights)) (sound .agree .admitted j (stood .held)))

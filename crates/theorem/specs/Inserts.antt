@@ -14,8 +14,8 @@ use Rattle.engine.specs.Opening.{opened}
 use Rattle.claims.specs.Ledger.{Ledger}
 use Rattle.claims.specs.Enter.{enter}
 use Rattle.claims.specs.Trace.{Event, eventsOf, recorded, ledgerAfter, ledgerOf}
-use Rattle.claims.specs.SameEnd.{SameJob, SameJobs}
-use Rattle.claims.specs.Inserts.{jobOf, jobsOf, JobsAre, insertsOf, InsertsStatement, SameInsertsStatement}
+use Rattle.claims.specs.SameEnd.{SameJobs}
+use Rattle.claims.specs.Inserts.{jobOf, jobsOf, JobsAre, InsertsStatement, SameInserts, SameInsertsStatement}
 use Rattle.theorem.specs.Update.{at-or, update-same, update-other}
 use Rattle.theorem.specs.SameEnd.{same-end}
 
@@ -80,20 +80,18 @@ pub jobs-inserted : InsertsStatement
 jobs-inserted heights calls =
     events-add {jobs = []} (record { count-is = refl; jobs-are = λ j h. absurd (omega arith) }) (eventsOf (opened heights .batch) calls)
 
--- A job is the same as an equal one.
-alike : {a b : Job} → a ≡ b → SameJob a b
-alike e = rw e (record { kind-same = refl; parameter-same = refl; arity-same = refl; accesses-same = λ place h. refl })
-
 -- Ledgers of the same jobs have the same.
-same-jobs : {jobs : List Job} {l m : Ledger} → JobsAre jobs l → JobsAre jobs m → SameJobs l m
-same-jobs one two =
+same-jobs : {jobs others : List Job} {l m : Ledger} → JobsAre jobs l → JobsAre others m → SameInserts jobs others → SameJobs l m
+same-jobs one two same =
+    let count = one .count-is ∙ same .length-same ∙ sym (two .count-is) in
     record {
-      count-same = one .count-is ∙ sym (two .count-is);
-      jobs-same = λ j h. alike (one .jobs-are j h ∙ sym (two .jobs-are j (omega (arith, one .count-is, two .count-is))));
+      count-same = count;
+      jobs-same = λ j h.
+          rw (one .jobs-are j h, two .jobs-are j (omega (arith, count))) (same .each-same j (omega (arith, one .count-is)));
     }
 
 pub same-inserts : SameInsertsStatement
 same-inserts heights first second e same rule ruled-first ruled-second =
-    let one : JobsAre (insertsOf heights first) (ledgerOf heights first) = jobs-inserted heights first in
-    let two : JobsAre (insertsOf heights first) (ledgerOf heights second) = rw same (jobs-inserted heights second) in
-    rw (← one .count-is) (same-end heights first second e (same-jobs one two) rule ruled-first ruled-second)
+    let one = jobs-inserted heights first in
+    let two = jobs-inserted heights second in
+    rw (← one .count-is) (same-end heights first second e (same-jobs one two same) rule ruled-first ruled-second)

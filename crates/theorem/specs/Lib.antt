@@ -34,3 +34,4 @@ pub mod Bypassed
 pub mod FormerRule
 pub mod Later
 pub mod Judged
+pub mod Predicted

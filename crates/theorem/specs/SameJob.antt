@@ -2,7 +2,7 @@
 use Prim.Native.Nat.{ℕ}
 use mathlib.Core.Bool.{true, false, cond, not, _&&_, _||_}
 use mathlib.Core.List.{List}
-use mathlib.Core.Path.{_≡_, sym, ap, _∙_}
+use mathlib.Core.Path.{_≡_, refl, sym, ap, _∙_}
 use lib.Dec.{eqb, leb}
 use lib.IntN.{ℤ}
 use lib.ListN.{set}
@@ -11,9 +11,22 @@ use Rattle.laws.specs.SearchLaws.{if-or, not-true}
 use Rattle.laws.specs.FoldLaws.{fold-same}
 use Rattle.dependence.specs.declared.Access.{Access}
 use Rattle.dependence.specs.declared.Job.{Job}
-use Rattle.dependence.specs.Job.{inUse, accessAt}
+use Rattle.dependence.specs.Job.{countsAs, inUse, accessAt}
 use Rattle.rules.specs.Values.{valueAt, presentAt, presentValues, writeAt, writeBack}
 use Rattle.claims.specs.SameEnd.{SameJob}
+
+-- Jobs that differ in their predictions alone are the same.
+pub predictions-alone : (job : Job) (predicted : List ℤ)
+    → SameJob job
+    (record {
+      kind = job .kind;
+      arity = job .arity;
+      accesses = job .accesses;
+      parameter = job .parameter;
+      predicted = predicted;
+    })
+predictions-alone job predicted =
+    record { kind-same = refl; parameter-same = refl; arity-same = refl; accesses-same = λ place h. refl }
 
 module _ {a b : Job} (same : SameJob a b) where
   -- The same places are in use, with the same accesses.
@@ -49,7 +62,7 @@ module _ {a b : Job} (same : SameJob a b) where
       rw (used, used-b)
       (ap
       (λ (x : Access).
-      cond (eqb (x .mode) 1 || (eqb (x .mode) 2 && eqb wrote 1)) (set cells (x .cell) (valueAt values place)) cells)
+      cond (eqb (countsAs (x .mode)) 1 || (eqb (x .mode) 2 && eqb wrote 1)) (set cells (x .cell) (valueAt values place)) cells)
       (access-same place used)))
       (λ free.
       let free-b : inUse b place ≡ false = used-same place ∙ free in

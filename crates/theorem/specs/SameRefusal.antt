@@ -12,9 +12,9 @@ use Rattle.laws.specs.Search.{anyBelow}
 use Rattle.laws.specs.SearchLaws.{any-same, if-or}
 use Rattle.laws.specs.Refusal.{Refusal, firstOf}
 use Rattle.dependence.specs.declared.Job.{Job}
-use Rattle.dependence.specs.Job.{inUse, accessAt}
+use Rattle.dependence.specs.Job.{accessAt}
 use Rattle.rules.specs.Values.{staleAt}
-use Rattle.rules.specs.Walk.{sourceBelow, bypassAt}
+use Rattle.rules.specs.Walk.{looksBack, sourceBelow, bypassAt}
 use Rattle.rules.specs.Snapshot.{Snapshot}
 use Rattle.rules.specs.Speculation.{waits, isReady, sourceNow, bypassedNow, handedStale, isValid, isInvalid, validity}
 use Rattle.rules.specs.Speculation.{unusable, sourceMissing}
@@ -59,7 +59,7 @@ module _ (s : Snapshot) (count : ℕ) (g : ℕ → Job) (cells : ℕ → ℤ) wh
     pub source-same : (place : ℕ) → sourceNow s j place ≡ sourceNow (withHeld s count g cells) j place
     source-same place =
         rw (same j h)
-        (ap (λ (k : ℕ). cond (inUse (g j) place) k 0)
+        (ap (λ (k : ℕ). cond (looksBack (g j) place) k 0)
         (source-below-same (s .job) g (s .committed) (accessAt (g j) place .cell) j (λ i l. same i (omega arith))))
 
     pub bypassed-same : (i : ℕ) → bypassedNow s j i ≡ bypassedNow (withHeld s count g cells) j i

@@ -10,11 +10,11 @@ use lib.ListN.{length, getD}
 use borrow.Author.Tests.{le-ltb, ltb-false, leb-false, le-leb}
 use Rattle.laws.specs.SearchLaws.{or-left}
 use Rattle.dependence.specs.declared.Job.{Job}
-use Rattle.dependence.specs.Job.{jobAt, inUse}
+use Rattle.dependence.specs.Job.{jobAt}
 use Rattle.admission.specs.AdmissionLaws.{admitted-arity}
 use Rattle.jobset.specs.JobSet.{hasJob}
 use Rattle.rules.specs.Values.{valueAt}
-use Rattle.rules.specs.Walk.{sourceBelow}
+use Rattle.rules.specs.Walk.{looksBack, sourceBelow}
 use Rattle.walk.specs.Sources.{setOf}
 use Rattle.rules.specs.Snapshot.{Snapshot}
 use Rattle.rules.specs.Speculation.{sourceNow, bypassedNow}
@@ -45,7 +45,7 @@ source-limit job committed cell (suc j) = cases (not (committed j) && _) (source
 
 -- So the number of a source, which is one more than the job's, is at most j.
 pub source-now-limit : (s : Snapshot) (j place : ℕ) → sourceNow s j place ≤ j
-source-now-limit s j place = cases (inUse (s .job j) place) _ (source-limit (s .job) (s .committed) _ j)
+source-now-limit s j place = cases (looksBack (s .job j) place) _ (source-limit (s .job) (s .committed) _ j)
   where
     cases : (t : Bool) (k : ℕ) → k ≤ j → cond t k 0 ≤ j
     cases true k h = h

@@ -1,4 +1,4 @@
--- A guess that the rules allow to start gathers its values as the model's walk does.
+-- A guess that the rules allow to start gathers its values as the model's walk does, where none of them is predicted.
 use Prim.Native.Nat.{ℕ, zero, suc, _-_, _<_, _≤_}
 use native.Mathlib.Omega.{arith}
 use mathlib.Core.Bool.{Bool, true, false, cond, not, _&&_}
@@ -10,9 +10,9 @@ use lib.IntN.{ℤ}
 use borrow.Author.Tests.{eq-eqb, ne-eqb, eqb-true, le-leb, lt-ltb, not-false}
 use Rattle.laws.specs.SearchLaws.{any-find, any-found, any-fails, each-of-four, if-or, clash, and-left, and-right}
 use Rattle.dependence.specs.declared.Job.{Job}
-use Rattle.dependence.specs.Job.{inUse, accessAt, jobAt}
+use Rattle.dependence.specs.Job.{isPredicted, countsAs, inUse, accessAt, predictsAt, predicts, jobAt}
 use Rattle.admission.specs.AdmissionLaws.{admitted-distinct}
-use Rattle.rules.specs.Values.{four, valueAt, valueFor, presentAt, storedValues}
+use Rattle.rules.specs.Values.{four, valueAt, valueFor, presumedAt, storedValues}
 use Rattle.rules.specs.Walk.{accessIs, writes as writesCell, maybeWrites, sourceBelow as sourceNumber, bypassAt}
 use Rattle.rules.specs.Snapshot.{isStored}
 use Rattle.rules.specs.Speculation.{sourceNow, bypassedNow, unusable, sourceMissing}
@@ -30,7 +30,7 @@ use Rattle.theorem.specs.Faithful.{Faithful}
 use Rattle.theorem.specs.Held.{guess-stored}
 use Rattle.theorem.specs.StepAgreement.{sources-agree}
 use Rattle.theorem.specs.View.{useOfMode, useOf, jobNumber, originFor, speculationOf, stateOf, progress-committed}
-use Rattle.theorem.specs.View.{mode-one, mode-two, one-writes, Place, place-of, place-mode}
+use Rattle.theorem.specs.View.{mode-one, mode-two, use-counts, one-writes, Place, place-of, place-mode}
 
 -- The rules' tests on a job, and the uses of the cell.
 
@@ -53,16 +53,17 @@ said-writes job x distinct e =
     let f = any-find 4 (λ i. inUse job i && accessIs 1 x (accessAt job i)) e in
     at (f .place) (f .below) (f .holds)
   where
-    at : (i : ℕ) → i < 4 → (inUse job i && (eqb (accessAt job i .cell) x && eqb (accessAt job i .mode) 1)) ≡ true
+    at : (i : ℕ) → i < 4 → (inUse job i && (eqb (accessAt job i .cell) x && eqb (countsAs (accessAt job i .mode)) 1)) ≡ true
         → useOf job x ≡ writes
     at i h t =
         let used : inUse job i ≡ true = and-left (inUse job i) _ t in
-        let both : (eqb (accessAt job i .cell) x && eqb (accessAt job i .mode) 1) ≡ true = and-right (inUse job i) _ t in
+        let both : (eqb (accessAt job i .cell) x && eqb (countsAs (accessAt job i .mode)) 1) ≡ true = and-right (inUse job i) _ t in
         let cell : accessAt job i .cell ≡ x =
         eqb-true (accessAt job i .cell) x (and-left (eqb (accessAt job i .cell) x) _ both) in
-        let mode : accessAt job i .mode ≡ 1 =
-        eqb-true (accessAt job i .mode) 1 (and-right (eqb (accessAt job i .cell) x) _ both) in
-        ap (λ (y : ℕ). useOf job y) (sym cell) ∙ place-mode job distinct i h used ∙ ap useOfMode mode ∙ one-writes
+        let mode : countsAs (accessAt job i .mode) ≡ 1 =
+        eqb-true (countsAs (accessAt job i .mode)) 1 (and-right (eqb (accessAt job i .cell) x) _ both) in
+        ap (λ (y : ℕ). useOf job y) (sym cell) ∙ place-mode job distinct i h used
+        ∙ sym (use-counts (accessAt job i .mode)) ∙ ap useOfMode mode ∙ one-writes
 
 -- A maybe-writer names its cell.
 maybe-named : {use′ : Use} → use′ ≡ maybe → names use′ ≡ true
@@ -170,11 +171,18 @@ newGuess l j handed =
     record { handed = handed; bypassed = bypassedNow (snapshotOfLedger l) j; source = sourceNow (snapshotOfLedger l) j }
 
 module _ {b : Batch} {l : Ledger} (agree : Faithful b l) (j : ℕ) (h : j < l .jobCount)
-    (usable : sourceMissing (snapshotOfLedger l) j ≡ false) where
+    (usable : sourceMissing (snapshotOfLedger l) j ≡ false) (plain : predicts (l .job j) ≡ false) where
+  -- The job predicts nothing, so it looks back from each place in use.
+  unpredicted-at : (i : ℕ) → i < 4 → predictsAt (l .job j) i ≡ false
+  unpredicted-at i place = any-fails 4 i (predictsAt (l .job j)) plain place
+
+  mode-unpredicted : (i : ℕ) → i < 4 → inUse (l .job j) i ≡ true → isPredicted (accessAt (l .job j) i .mode) ≡ false
+  mode-unpredicted i place used = rw used at (unpredicted-at i place)
+
   -- What is handed out at a place, by where its value comes from (a number as the record has it).
   handedBy : ℕ → ℕ → ℤ
   handedBy i n =
-      cond (eqb n 0) (presentAt (jobAt (b .jobs) j) (b .cells) i)
+      cond (eqb n 0) (presumedAt (jobAt (b .jobs) j) (b .cells) i)
       (valueFor (jobAt (b .jobs) (n - 1)) (runAt b (n - 1) .reported) (accessAt (jobAt (b .jobs) j) i .cell))
 
   -- It is what the guess is handed there.
@@ -183,19 +191,19 @@ module _ {b : Batch} {l : Ledger} (agree : Faithful b l) (j : ℕ) (h : j < l .j
   handed-by i n e = ap (handedBy i) (sources-agree agree j h i ∙ e)
 
   -- The walk at a place of the job is the model's at its cell.
-  walked-at : (x i : ℕ) → inUse (l .job j) i ≡ true → accessAt (l .job j) i .cell ≡ x
+  walked-at : (x i : ℕ) → i < 4 → inUse (l .job j) i ≡ true → accessAt (l .job j) i .cell ≡ x
       → jobNumber (sourceNow (snapshotOfLedger l) j i) ≡ sourceBelow (stateOf l (b .cells)) x j
-  walked-at x i used cell =
-      rw used
+  walked-at x i place used cell =
+      rw (used, mode-unpredicted i place used)
       (ap (λ (y : ℕ). jobNumber (sourceNumber (l .job) (λ i. isCounted (l .entry i)) y j)) cell
       ∙ walk-says agree (b .cells) x j (omega arith))
 
   -- Where no writer is met the present value is handed out,
-  value-present : (x i : ℕ) → inUse (l .job j) i ≡ true → accessAt (l .job j) i .cell ≡ x
+  value-present : (x i : ℕ) → i < 4 → inUse (l .job j) i ≡ true → accessAt (l .job j) i .cell ≡ x
       → sourceNow (snapshotOfLedger l) j i ≡ 0 → speculativeAt b j i ≡ valueAt (b .cells) x
   unfolding handedBy
-  value-present x i used cell e =
-      handed-by i 0 e ∙ rw (agree .jobs-are j h, used) (ap (valueAt (b .cells)) cell)
+  value-present x i place used cell e =
+      handed-by i 0 e ∙ rw (agree .jobs-are j h, used, mode-unpredicted i place used) (ap (valueAt (b .cells)) cell)
 
   -- and else what the writer's guess reported.
   module _ (x i w : ℕ) (place : i < 4) (used : inUse (l .job j) i ≡ true) (cell : accessAt (l .job j) i .cell ≡ x)
@@ -204,7 +212,7 @@ module _ {b : Batch} {l : Ledger} (agree : Faithful b l) (j : ℕ) (h : j < l .j
     met : (w < j) × (useOf (l .job w) x ≡ writes)
     met =
         let m =
-        source-met (stateOf l (b .cells)) x j .writer w (sym (walked-at x i used cell) ∙ ap jobNumber e ∙ number-some w) in
+        source-met (stateOf l (b .cells)) x j .writer w (sym (walked-at x i place used cell) ∙ ap jobNumber e ∙ number-some w) in
         (m .0, m .1)
 
     -- Its guess has a report, or the start would have been refused with 15.
@@ -239,7 +247,7 @@ module _ {b : Batch} {l : Ledger} (agree : Faithful b l) (j : ℕ) (h : j < l .j
   value-at : (x i : ℕ) → i < 4 → inUse (l .job j) i ≡ true → accessAt (l .job j) i .cell ≡ x
       → (n : ℕ) → sourceNow (snapshotOfLedger l) j i ≡ n
       → HandedFrom (stateOf l (b .cells)) x (jobNumber n) (speculativeAt b j i)
-  value-at x i place used cell zero e = rw number-none (value-present x i used cell e)
+  value-at x i place used cell zero e = rw number-none (value-present x i place used cell e)
   value-at x i place used cell (suc w) e = rw (number-some w) (value-forwarded x i w place used cell e)
 
   -- A maybe-writer that is met is among those looked past.
@@ -249,14 +257,21 @@ module _ {b : Batch} {l : Ledger} (agree : Faithful b l) (j : ℕ) (h : j < l .j
   covered x i k place used cell from below unsettled use′ =
       rw (lt-ltb k j below)
       (any-found 4 i (bypassAt (l .job) (λ i. isCounted (l .entry i)) j k) place
-      (rw (le-leb (sourceNow (snapshotOfLedger l) j i) k from, used, unsettled, cell, maybe-said (l .job k) x use′)))
+      (rw (
+        le-leb (sourceNow (snapshotOfLedger l) j i) k from,
+        used,
+        mode-unpredicted i place used,
+        unsettled,
+        cell,
+        maybe-said (l .job k) x use′,
+      )))
 
   -- A guess that the rules let start gathers its values by the walk.
   pub new-gathered : Gathered (stateOf l (b .cells)) j (originFor (l .job j) (newGuess l j (speculativeValues b j)))
   new-gathered =
       record {
         walked = λ x n. let p = place-of (l .job j) x n in
-            ap jobNumber (p .number (sourceNow (snapshotOfLedger l) j)) ∙ walked-at x (p .place) (p .used) (p .cell);
+            ap jobNumber (p .number (sourceNow (snapshotOfLedger l) j)) ∙ walked-at x (p .place) (p .below) (p .used) (p .cell);
         value = λ x n. let p = place-of (l .job j) x n in
             rw (
               p .number (sourceNow (snapshotOfLedger l) j),

@@ -1,18 +1,18 @@
 //! Where a speculative run's values come from: for each cell of its job a walk back over the earlier jobs that are not
-//! committed, past the maybe-writers, to the nearest writer.
+//! committed, past the maybe-writers, to the nearest writer. A predicted cell needs no walk.
 
 ghost use mathlib.Core.Path.{_≡_};
 ghost use Prim.Native.Nat.{_<_, _≤_};
 ghost use Rattle.laws.specs.Search.{anyBelow};
 ghost use Rattle.dependence.specs.Job.{anyAccess};
-ghost use Rattle.rules.specs.Walk.{accessIs};
+ghost use Rattle.rules.specs.Walk.{accessIs, looksBack};
 ghost use Rattle.walk.specs.Sources.{writesAt, openWriter, sourceFor, sourceAt, sourcesOf, bypassGiven, bypassedSet};
 use dependence::Job;
 use jobset::JobSet;
 
 pub mod nearest;
 
-/// Whether the job's access at place `i` is to the cell and has the mode.
+/// Whether the job's access at place `i` is to the cell and counts as one of the mode.
 fn writes_at(job: Job, cell: u8, mode: u8, i: usize) -> bool
     requires { ⌜ i < 4 ⌝ }
     ensures { λ r. ⌜ r ≡ writesAt job cell mode i ⌝ }
@@ -24,10 +24,10 @@ fn writes_at(job: Job, cell: u8, mode: u8, i: usize) -> bool
     if access.cell != cell {
         return false;
     }
-    access.mode == mode
+    dependence::counts_as(access.mode) == mode
 }
 
-/// Whether one of the job's accesses is to the cell and has the mode: that of a writer, or of a maybe-writer.
+/// Whether one of the job's accesses is to the cell and counts as the mode: that of a writer, or of a maybe-writer.
 fn writes_cell(job: Job, cell: u8, mode: u8) -> bool
     ensures { λ r. ⌜ r ≡ anyAccess job (accessIs mode cell) ⌝ }
 {
@@ -69,16 +69,28 @@ fn source_below(jobs: [Job; 128], committed: [u8; 128], cell: u8, j: usize) -> u
     0
 }
 
-/// Where the value at a place of `job` comes from, by the walk from job `j`; 0 where the place is not in use.
+/// Whether the value at a place of the job is found by a walk: the place is in use, and its cell not predicted.
+pub(crate) fn looks_back(job: Job, place: usize) -> bool
+    requires { ⌜ place < 4 ⌝ }
+    ensures { λ r. ⌜ r ≡ looksBack job place ⌝ }
+{
+    if (job.arity as usize) <= place {
+        return false;
+    }
+    let access = job.accesses[place];
+    access.mode != dependence::PREDICTED_WRITE
+}
+
+/// Where the value at a place of `job` comes from, by the walk from job `j`; 0 where there is none.
 fn source_at(job: Job, jobs: [Job; 128], committed: [u8; 128], j: usize, place: usize) -> u8
     requires { ⌜ (j ≤ 128) × (place < 4) ⌝ }
     ensures { λ r. ⌜ r ≡ sourceAt job jobs committed j place ⌝ }
 {
-    if (job.arity as usize) <= place {
-        return 0;
+    if looks_back(job, place) {
+        let access = job.accesses[place];
+        return source_below(jobs, committed, access.cell, j);
     }
-    let access = job.accesses[place];
-    source_below(jobs, committed, access.cell, j)
+    0
 }
 
 /// For each place of job `j` the job whose report gives the value, as one more than its number; 0 for the present cell.
@@ -101,15 +113,15 @@ fn bypasses_at(job: Job, sources: [u8; 4], earlier: Job, how: u8, i: usize, plac
     requires { ⌜ place < 4 ⌝ }
     ensures { λ r. ⌜ r ≡ bypassGiven job sources earlier how i place ⌝ }
 {
-    if (job.arity as usize) <= place {
-        return false;
+    if looks_back(job, place) {
+        let source = sources[place];
+        if i < (source as usize) {
+            return false;
+        }
+        let access = job.accesses[place];
+        return is_open_writer(earlier, how, access.cell, dependence::UNCERTAIN_WRITE);
     }
-    let source = sources[place];
-    if i < (source as usize) {
-        return false;
-    }
-    let access = job.accesses[place];
-    is_open_writer(earlier, how, access.cell, dependence::UNCERTAIN_WRITE)
+    false
 }
 
 /// Whether the walk from one of the places does.

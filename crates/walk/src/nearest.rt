@@ -5,19 +5,20 @@ ghost use mathlib.Core.Path.{_≡_};
 ghost use Prim.Native.Nat.{_<_};
 ghost use Rattle.dependence.specs.Job.{accessAt, ByteCells};
 ghost use Rattle.walk.specs.Nearest.{sourceBy, sourcesBy, writeNoted, jobNoted};
+use crate::looks_back;
 use dependence::Job;
 
-/// Where the value at a place of the job comes from, by the table; 0 where the place is not in use.
+/// Where the value at a place of the job comes from, by the table; 0 where there is no walk for it.
 fn source_by(job: Job, nearest: &[u8; 256], place: usize) -> u8
     requires { ⌜ place < 4 ⌝ }
     ensures { λ r. ⌜ (r ≡ sourceBy job (now (nearest .entry)) place) × (accessAt job place .cell < 256) ⌝ }
 {
     let access = job.accesses[place];
     let cell = access.cell as usize;
-    if (job.arity as usize) <= place {
-        return 0;
+    if looks_back(job, place) {
+        return nearest[cell];
     }
-    nearest[cell]
+    0
 }
 
 /// For each place of the job the job whose report gives the value, by the table of the jobs before it.
@@ -32,7 +33,8 @@ pub fn sources_by(job: Job, nearest: &[u8; 256]) -> [u8; 4]
     [a, b, c, d]
 }
 
-/// Notes the number at the cell of the job's access at the place, if that is a sure write: an uncertain one is bypassed.
+/// Notes the number at the cell of the job's access at the place, if that is a sure write, predicted or not. An uncertain one
+/// is bypassed.
 fn note_write(job: Job, number: u8, place: usize, nearest: &mut [u8; 256])
     requires { ⌜ place < 4 ⌝ }
     ensures { λ _. ⌜ now (nearest .exit) ≡ writeNoted job number place (now (nearest .entry)) ⌝ }
@@ -41,7 +43,7 @@ fn note_write(job: Job, number: u8, place: usize, nearest: &mut [u8; 256])
         return;
     }
     let access = job.accesses[place];
-    if access.mode == dependence::WRITE {
+    if dependence::counts_as(access.mode) == dependence::WRITE {
         let cell = access.cell as usize;
         nearest[cell] = number;
     }

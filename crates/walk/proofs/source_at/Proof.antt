@@ -1,15 +1,11 @@
 -- `source_at` meets its contract.
-use borrow.Author.Tests.{le-leb, lt-leb}
+use mathlib.Core.Path.{sym, _∙_}
 use borrow.Author.Needs.{needs}
 use Rattle.walk.proofs.source_at.Statement.{statement}
 use Rattle.walk.proofs.source_at.Tie as tie
 
-cast-if1 : tie.Need-cast-if1
-cast-if1 c = search needs
-
--- a place that is not in use
-returns : tie.Need-returns
-returns c = rw (le-leb _ _ (c .if1 .taken))
+looks-back-requires : tie.Need-looks-back-requires
+looks-back-requires c κs = search needs
 
 mul-access : tie.Need-mul-access
 mul-access c = search needs
@@ -20,11 +16,17 @@ element-copy-out-access c = search needs
 source-below-requires : tie.Need-source-below-requires
 source-below-requires c κs = search needs
 
--- a place in use: the walk for its cell
+-- the walk for the place's cell
+returns : tie.Need-returns
+returns c =
+    let test = c .before .before in
+    rw (c .source-below .ensures, sym (test .before .looks-back .ensures) ∙ test .if1 .taken)
+
+-- no walk
 returns-2 : tie.Need-returns-2
-returns-2 c = rw (c .source-below .ensures, lt-leb _ _ (c .before .before .if1 .left))
+returns-2 c = rw (sym (c .before .looks-back .ensures) ∙ c .if1 .left)
 
 pub source-at-spec : {M : Type 1} → statement M
 source-at-spec =
     tie.close
-    (tie.spec cast-if1 returns mul-access element-copy-out-access source-below-requires returns-2)
+    (tie.spec looks-back-requires mul-access element-copy-out-access source-below-requires returns returns-2)

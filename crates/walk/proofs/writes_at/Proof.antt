@@ -21,9 +21,13 @@ element-copy-out-access c = search needs
 returns-2 : tie.Need-returns-2
 returns-2 c = rw (lt-leb _ _ (c .before .before .before .if1 .left), ne-eqb _ _ (c .if2 .taken))
 
+counts-as-requires : tie.Need-counts-as-requires
+counts-as-requires c κs = search needs
+
 -- the same cell: the mode decides
 returns-3 : tie.Need-returns-3
-returns-3 c = rw (lt-leb _ _ (c .before .before .before .before .if1 .left), eq-eqb _ _ (c .before .if2 .left))
+returns-3 c =
+    rw (c .counts-as .ensures, lt-leb _ _ (c .before .before .before .before .if1 .left), eq-eqb _ _ (c .before .if2 .left))
 
 pub writes-at-spec : {M : Type 1} → statement M
-writes-at-spec = tie.close (tie.spec cast-if1 returns mul-access element-copy-out-access returns-2 returns-3)
+writes-at-spec = tie.close (tie.spec cast-if1 returns mul-access element-copy-out-access returns-2 counts-as-requires returns-3)

@@ -86,19 +86,19 @@ add-place c = omega arith
 loop-less : tie.Need-loop-less Inv-loop μ-loop
 loop-less c = omega arith
 
--- forwarded, or as it is present
+-- forwarded, or as it is presumed
 loop-again : tie.Need-loop-again Inv-loop μ-loop
 loop-again c =
     let l = c .before .before .loop in
     let s = c .before .before .before in
     let a = s .args in
-    let long : length (a .present) ≡ 4 = search needs in
+    let long : length (a .presumed) ≡ 4 = search needs in
     let here = c .before .loop-test .taken in
-    let f = forwardedAt (a .t1) (a .t2) (a .present) (a .t4) in (
+    let f = forwardedAt (a .t1) (a .t2) (a .presumed) (a .t4) in (
       omega arith,
       ⊎-elim
-          (λ w. w .6 ∙ rw (back (w .5 .result) (w .5 .ok), l .inv .1) (forward-more f (a .present) long (l .place) here (w .5 .result) (rw (ne-eqb _ _ (w .0 .taken)) (w .5 .ensures))))
-          (λ w. w .1 ∙ rw (l .inv .1) (forward-kept f (a .present) long (l .place) here (rw (w .0 .left))))
+          (λ w. w .6 ∙ rw (back (w .5 .result) (w .5 .ok), l .inv .1) (forward-more f (a .presumed) long (l .place) here (w .5 .result) (rw (ne-eqb _ _ (w .0 .taken)) (w .5 .ensures))))
+          (λ w. w .1 ∙ rw (l .inv .1) (forward-kept f (a .presumed) long (l .place) here (rw (w .0 .left))))
           (c .if1 .came),
     )
 
@@ -108,8 +108,8 @@ returns c =
     let l = c .before .loop in
     let e : l .place ≡ 4 = omega arith in
     let a = c .before .before .args in
-    let long : length (a .present) ≡ 4 = search needs in
-    rw (l .inv .1, e) (forward-all (forwardedAt (a .t1) (a .t2) (a .present) (a .t4)) (a .present) long)
+    let long : length (a .presumed) ≡ 4 = search needs in
+    rw (l .inv .1, e) (forward-all (forwardedAt (a .t1) (a .t2) (a .presumed) (a .t4)) (a .presumed) long)
 
 pub forwarded-values-spec : {M : Type 1} → statement M
 forwarded-values-spec =

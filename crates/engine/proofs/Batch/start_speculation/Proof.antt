@@ -88,8 +88,8 @@ array-copy-out-job c =
     let a = e .before .before .args in
     omega (arith, place-of (a .t1) (a .j) (e .before .step-refusal .ensures) (e .if1 .left))
 
-present-values-requires : tie.Need-present-values-requires
-present-values-requires c κs = search needs
+presumed-values-requires : tie.Need-presumed-values-requires
+presumed-values-requires c κs = search needs
 
 forwarded-values-requires : tie.Need-forwarded-values-requires
 forwarded-values-requires c κs =
@@ -164,7 +164,7 @@ returns-3 c =
       c .new-run .ensures,
       bypassed .bypassed-by .ensures,
       values .forwarded-values .ensures,
-      values .before .present-values .ensures,
+      values .before .presumed-values .ensures,
       sources .sources .ensures,
     )
     (sym (speculation-accepted (a .t1) (a .j) free))
@@ -185,7 +185,7 @@ start-speculation-spec =
     returns-2
     mul-job
     array-copy-out-job
-    present-values-requires
+    presumed-values-requires
     forwarded-values-requires
     bypassed-by-requires
     new-run-requires

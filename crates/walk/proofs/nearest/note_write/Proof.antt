@@ -1,4 +1,5 @@
 -- `note_write` meets its contract.
+use mathlib.Core.Path.{sym, _∙_}
 use borrow.Author.Tests.{le-leb, lt-leb, eq-eqb, ne-eqb}
 use borrow.Author.Needs.{needs}
 use Rattle.walk.proofs.nearest.note_write.Statement.{statement}
@@ -17,6 +18,9 @@ mul-access c = search needs
 element-copy-out-access : tie.Need-element-copy-out-access
 element-copy-out-access c = search needs
 
+counts-as-requires : tie.Need-counts-as-requires
+counts-as-requires c κs = search needs
+
 cast-cell : tie.Need-cast-cell
 cast-cell c = search needs
 
@@ -25,11 +29,16 @@ element-write-nearest c = search needs
 
 -- a sure write: noted
 returns-2 : tie.Need-returns-2
-returns-2 c = rw (lt-leb _ _ (c .before .before .before .before .if1 .left), eq-eqb _ _ (c .before .if2 .taken))
+returns-2 c =
+    let test = c .before in
+    let mode = test .before in
+    rw (lt-leb _ _ (mode .before .before .if1 .left), eq-eqb _ _ (sym (mode .counts-as .ensures) ∙ test .if2 .taken))
 
 -- any other access
 returns-3 : tie.Need-returns-3
-returns-3 c = rw (lt-leb _ _ (c .before .before .before .if1 .left), ne-eqb _ _ (c .if2 .left))
+returns-3 c =
+    let mode = c .before in
+    rw (lt-leb _ _ (mode .before .before .if1 .left), ne-eqb _ _ (λ e. c .if2 .left (mode .counts-as .ensures ∙ e)))
 
 pub note-write-spec : {M : Type 1} → statement M
 note-write-spec =
@@ -39,6 +48,7 @@ note-write-spec =
     returns
     mul-access
     element-copy-out-access
+    counts-as-requires
     cast-cell
     element-write-nearest
     returns-2

@@ -1,5 +1,5 @@
 -- `source_by` meets its contract.
-use borrow.Author.Tests.{le-leb, lt-leb}
+use mathlib.Core.Path.{sym, _∙_}
 use borrow.Author.Needs.{needs}
 use Rattle.walk.proofs.nearest.source_by.Statement.{statement}
 use Rattle.walk.proofs.nearest.source_by.Tie as tie
@@ -13,19 +13,21 @@ element-copy-out-access c = search needs
 cast-cell : tie.Need-cast-cell
 cast-cell c = search needs
 
-cast-if1 : tie.Need-cast-if1
-cast-if1 c = search needs
-
--- a place that is not in use
-returns : tie.Need-returns
-returns c = (rw (le-leb _ _ (c .if1 .taken)), search needs)
+looks-back-requires : tie.Need-looks-back-requires
+looks-back-requires c κs = search needs
 
 element-copy-out-result : tie.Need-element-copy-out-result
 element-copy-out-result c = search needs
 
--- a place in use: its cell's number
+-- its cell's number
+returns : tie.Need-returns
+returns c =
+    let test = c .before in
+    (rw (sym (test .before .looks-back .ensures) ∙ test .if1 .taken), search needs)
+
+-- no walk
 returns-2 : tie.Need-returns-2
-returns-2 c = (rw (lt-leb _ _ (c .before .if1 .left)), search needs)
+returns-2 c = (rw (sym (c .before .looks-back .ensures) ∙ c .if1 .left), search needs)
 
 pub source-by-spec : {M : Type 1} → statement M
 source-by-spec =
@@ -34,7 +36,7 @@ source-by-spec =
     mul-access
     element-copy-out-access
     cast-cell
-    cast-if1
-    returns
+    looks-back-requires
     element-copy-out-result
+    returns
     returns-2)
