@@ -1,6 +1,6 @@
 /* Monday's batch, run by a host in C: a spike test that finds nothing, and the shift behind it run as a guess and kept.
- * Then the desk's numbers: what became of the guesses, on this morning and on a week of such mornings. At last a job that
- * comes in late: the harbour master rings with a correction when all is done. */
+ * Then the desk's numbers: what became of the guesses, on this morning and on a week of such mornings. Then a job that comes
+ * in late: the harbour master rings with a correction when all is done. At last a job with a forecast. */
 #include "sorghemi.h"
 
 #include <inttypes.h>
@@ -13,6 +13,9 @@ static const sorghemi_job shift = {.kind = SORGHEMI_KIND_SHIFT, .parameter = 20,
                                    .accesses = {{0, SORGHEMI_MODE_WRITE}}};
 static const sorghemi_job correction = {.kind = SORGHEMI_KIND_SHIFT, .parameter = 5, .arity = 1,
                                         .accesses = {{0, SORGHEMI_MODE_WRITE}}};
+/* The table's own check. It will find 1530, says the forecast. */
+static const sorghemi_job table = {.kind = SORGHEMI_KIND_OUTSIDE, .arity = 1,
+                                   .accesses = {{0, SORGHEMI_MODE_PREDICTED_WRITE}}, .predicted = {1530}};
 static const sorghemi_report nothing = {{0, 0, 0, 0}, 0};
 
 /* Ends the program at the first refusal. */
@@ -152,6 +155,20 @@ static void correct(sorghemi_batch *batch)
     step(batch, SORGHEMI_STEP_REPORT_OWN, choice.job, work(&correction, &handed));
 }
 
+/* With a forecast the table's guess does not wait for the correction before it, and is kept where the forecast was right. */
+static void run_forecast(sorghemi_batch *batch)
+{
+    printf("another correction comes in, and a job with a forecast\n");
+    expect_accepted("insert", sorghemi_batch_insert(batch, correction));
+    expect_accepted("insert", sorghemi_batch_insert(batch, table));
+    sorghemi_handed to_correction = step(batch, SORGHEMI_STEP_START_OWN, 3, nothing);
+    sorghemi_handed to_table = step(batch, SORGHEMI_STEP_START_SPECULATION, 4, nothing);
+    sorghemi_report rounded = {.values = {to_table.values[0] + 2}};
+    step(batch, SORGHEMI_STEP_REPORT_SPECULATION, 4, rounded);
+    step(batch, SORGHEMI_STEP_REPORT_OWN, 3, work(&correction, &to_correction));
+    step(batch, SORGHEMI_STEP_COMMIT, 4, nothing);
+}
+
 int main(void)
 {
     sorghemi_batch batch;
@@ -160,6 +177,8 @@ int main(void)
     print_end(&batch);
     print_tallies(&batch);
     correct(&batch);
+    print_end(&batch);
+    run_forecast(&batch);
     print_end(&batch);
     return 0;
 }

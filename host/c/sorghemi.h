@@ -22,6 +22,7 @@ enum { /* what a job may do with a cell (R3) */
     SORGHEMI_MODE_READ = 0,
     SORGHEMI_MODE_WRITE = 1,
     SORGHEMI_MODE_MAYBE_WRITE = 2,
+    SORGHEMI_MODE_PREDICTED_WRITE = 3, /* a write whose old height the job's own guess is told beforehand (R23, R46) */
 };
 
 enum { /* the kinds of jobs (R11 to R17) */
@@ -69,7 +70,7 @@ enum { /* how a job's guess is judged (R45) */
     ROW(3, TOO_MANY_JOBS, "128 jobs are held already") \
     ROW(4, ACCESS_COUNT, "a job has 1 to 4 accesses") \
     ROW(5, NO_SUCH_CELL, "there is no such cell") \
-    ROW(6, NO_SUCH_MODE, "a mode is 0 (read), 1 (write) or 2 (maybe-write)") \
+    ROW(6, NO_SUCH_MODE, "a mode is 0 (read), 1 (write), 2 (maybe-write) or 3 (predicted write)") \
     ROW(7, CELL_TWICE, "a cell stands twice in the job") \
     ROW(8, WRONG_KIND, "there is no such kind, its modes are others, or it has no result built in") \
     ROW(9, WRONG_SWITCH, "the guess switch is 0 or 1") \
@@ -120,12 +121,17 @@ typedef struct {
     uint8_t mode;
 } sorghemi_access;
 
-/* A job as inserted: its kind, the kind's parameter, and its accesses. The first `arity` places are in use. */
+/* A job as inserted: its kind, its accesses, of which the first `arity` places are in use, the kind's parameter, and a
+ * prediction for each access. With mode 3 the job's guess is handed the prediction for that cell, and waits for nobody on
+ * its account; with other modes it is kept and not looked at. Name the fields when you write one down:
+ *     sorghemi_job job = { .kind = SORGHEMI_KIND_OUTSIDE, .arity = 1,
+ *                          .accesses = { { .cell = 0, .mode = SORGHEMI_MODE_PREDICTED_WRITE } }, .predicted = { 1510 } }; */
 typedef struct {
     uint8_t kind;
-    int32_t parameter;
     uint8_t arity;
     sorghemi_access accesses[4];
+    int32_t parameter;
+    int32_t predicted[4];
 } sorghemi_job;
 
 /* A set of jobs: bit j of `low` is job j, bit j of `high` is job 64 + j. */
@@ -136,8 +142,8 @@ typedef struct {
 
 /* A job's run: the values handed out, and the values and the mark of its report as stored. A job holds one run at a
  * time, its own or its guess. Of a guess also where its values came from: `sources` has for each access one more than
- * the number of the job whose guess the value was taken from, 0 for the cell itself, and `bypassed` has the jobs that
- * it looked past. */
+ * the number of the job whose guess the value was taken from, 0 for the cell itself or a prediction, and `bypassed` has
+ * the jobs that it looked past. */
 typedef struct {
     int32_t handed[4];
     int32_t reported[4];
@@ -326,7 +332,7 @@ uint32_t sorghemi_layout(size_t place);
 /* The same list as this header has it: a version, then of each struct its size and the offsets of its fields. */
 #define SORGHEMI_AT(type, field) ((uint32_t)offsetof(type, field))
 static const uint32_t sorghemi_header_layout[] = {
-    4,
+    5,
     sizeof(sorghemi_batch), SORGHEMI_AT(sorghemi_batch, cell_count), SORGHEMI_AT(sorghemi_batch, job_count),
     SORGHEMI_AT(sorghemi_batch, sealed), SORGHEMI_AT(sorghemi_batch, speculating), SORGHEMI_AT(sorghemi_batch, cells),
     SORGHEMI_AT(sorghemi_batch, jobs), SORGHEMI_AT(sorghemi_batch, runs), SORGHEMI_AT(sorghemi_batch, committed),
@@ -334,8 +340,8 @@ static const uint32_t sorghemi_header_layout[] = {
     sizeof(sorghemi_run), SORGHEMI_AT(sorghemi_run, handed), SORGHEMI_AT(sorghemi_run, reported),
     SORGHEMI_AT(sorghemi_run, wrote), SORGHEMI_AT(sorghemi_run, sources), SORGHEMI_AT(sorghemi_run, bypassed),
     sizeof(sorghemi_job_set), SORGHEMI_AT(sorghemi_job_set, low), SORGHEMI_AT(sorghemi_job_set, high),
-    sizeof(sorghemi_job), SORGHEMI_AT(sorghemi_job, kind), SORGHEMI_AT(sorghemi_job, parameter),
-    SORGHEMI_AT(sorghemi_job, arity), SORGHEMI_AT(sorghemi_job, accesses),
+    sizeof(sorghemi_job), SORGHEMI_AT(sorghemi_job, kind), SORGHEMI_AT(sorghemi_job, arity),
+    SORGHEMI_AT(sorghemi_job, accesses), SORGHEMI_AT(sorghemi_job, parameter), SORGHEMI_AT(sorghemi_job, predicted),
     sizeof(sorghemi_access), SORGHEMI_AT(sorghemi_access, cell), SORGHEMI_AT(sorghemi_access, mode),
     sizeof(sorghemi_report), SORGHEMI_AT(sorghemi_report, values), SORGHEMI_AT(sorghemi_report, wrote),
     sizeof(sorghemi_handed), SORGHEMI_AT(sorghemi_handed, refusal), SORGHEMI_AT(sorghemi_handed, values),

@@ -123,20 +123,22 @@ static void *work(void *shared)
     return NULL;
 }
 
-/* The modes, short for the jobs below. */
+/* The modes, short for the jobs below, and a job: its kind, the kind's parameter, how many accesses, and these. */
 enum { R = SORGHEMI_MODE_READ, W = SORGHEMI_MODE_WRITE, M = SORGHEMI_MODE_MAYBE_WRITE };
+#define JOB(name, p, count, ...) \
+    ((sorghemi_job){.kind = SORGHEMI_KIND_##name, .parameter = (p), .arity = (count), .accesses = {__VA_ARGS__}})
 
 /* Six gauges. Of the tests some find something and some do not, so that guesses are kept and guesses are thrown away. */
 static void plan(sorghemi_batch *batch)
 {
     const int32_t heights[] = {2900, 1500, 1480, 1720, 1390, 1610};
     const sorghemi_job jobs[] = {
-        {SORGHEMI_KIND_SPIKE, 1000, 2, {{0, M}, {1, R}}}, {SORGHEMI_KIND_SHIFT, 20, 1, {{0, W}}},
-        {SORGHEMI_KIND_SPIKE, 1000, 2, {{2, M}, {3, R}}}, {SORGHEMI_KIND_SHIFT, 20, 1, {{2, W}}},
-        {SORGHEMI_KIND_FLOOR, 1400, 1, {{4, M}}},         {SORGHEMI_KIND_MEAN, 0, 3, {{5, W}, {4, R}, {2, R}}},
-        {SORGHEMI_KIND_PAIR, 0, 2, {{0, M}, {2, M}}},     {SORGHEMI_KIND_FLOOR, 1400, 1, {{1, M}}},
-        {SORGHEMI_KIND_SHIFT, -15, 1, {{1, W}}},          {SORGHEMI_KIND_MEAN, 0, 3, {{3, W}, {0, R}, {1, R}}},
-        {SORGHEMI_KIND_SPIKE, 30, 2, {{5, M}, {3, R}}},   {SORGHEMI_KIND_SHIFT, 7, 1, {{5, W}}},
+        JOB(SPIKE, 1000, 2, {0, M}, {1, R}), JOB(SHIFT, 20, 1, {0, W}),
+        JOB(SPIKE, 1000, 2, {2, M}, {3, R}), JOB(SHIFT, 20, 1, {2, W}),
+        JOB(FLOOR, 1400, 1, {4, M}),         JOB(MEAN, 0, 3, {5, W}, {4, R}, {2, R}),
+        JOB(PAIR, 0, 2, {0, M}, {2, M}),     JOB(FLOOR, 1400, 1, {1, M}),
+        JOB(SHIFT, -15, 1, {1, W}),          JOB(MEAN, 0, 3, {3, W}, {0, R}, {1, R}),
+        JOB(SPIKE, 30, 2, {5, M}, {3, R}),   JOB(SHIFT, 7, 1, {5, W}),
     };
     expect_accepted("open", sorghemi_batch_open(batch, heights, sizeof heights / sizeof *heights));
     for (size_t job = 0; job < sizeof jobs / sizeof *jobs; job++) {
@@ -177,11 +179,11 @@ static void close_line(morning *today)
 static void take_calls(morning *today)
 {
     take_a_while(3);
-    insert(today, (sorghemi_job){SORGHEMI_KIND_SHIFT, 5, 1, {{0, W}}});
+    insert(today, JOB(SHIFT, 5, 1, {0, W}));
     take_a_while(60);
-    insert(today, (sorghemi_job){SORGHEMI_KIND_SPIKE, 30, 2, {{1, M}, {2, R}}});
+    insert(today, JOB(SPIKE, 30, 2, {1, M}, {2, R}));
     wait_until_finished(today);
-    insert(today, (sorghemi_job){SORGHEMI_KIND_SHIFT, -10, 1, {{1, W}}});
+    insert(today, JOB(SHIFT, -10, 1, {1, W}));
     take_a_while(12);
     close_line(today);
 }

@@ -30,13 +30,14 @@ trait Walk {
 
     fn job(&mut self, at: usize, job: &mut Job) {
         self.byte(at + offset_of!(Job, kind), &mut job.kind);
-        self.heights(at + offset_of!(Job, parameter), std::slice::from_mut(&mut job.parameter));
         self.byte(at + offset_of!(Job, arity), &mut job.arity);
         for (i, access) in job.accesses.iter_mut().enumerate() {
             let place = at + offset_of!(Job, accesses) + i * size_of::<Access>();
             self.byte(place + offset_of!(Access, cell), &mut access.cell);
             self.byte(place + offset_of!(Access, mode), &mut access.mode);
         }
+        self.heights(at + offset_of!(Job, parameter), std::slice::from_mut(&mut job.parameter));
+        self.heights(at + offset_of!(Job, predicted), &mut job.predicted);
     }
 
     fn run(&mut self, at: usize, run: &mut Run) {
@@ -104,7 +105,7 @@ impl Record {
     /// A record of zeros, which is out of form.
     fn blank() -> Record {
         let access = Access { cell: 0, mode: 0 };
-        let job = Job { kind: 0, parameter: 0, arity: 0, accesses: [access; 4] };
+        let job = Job { kind: 0, arity: 0, accesses: [access; 4], parameter: 0, predicted: [0; 4] };
         let bypassed = JobSet { low: 0, high: 0 };
         let run = Run { handed: [0; 4], reported: [0; 4], wrote: 0, sources: [0; 4], bypassed };
         Record {

@@ -5,18 +5,21 @@ use crate::numbers::{Kind, Mode};
 use crate::raw::{self, Access};
 use crate::refusal::Refusal;
 
-/// A job. The first `arity` accesses are in use.
+/// A job. The first `arity` accesses are in use, and their predictions where the mode is 3.
 #[repr(C)]
 #[derive(Clone, Copy, Debug, PartialEq, Eq)]
 pub struct Job {
     /// The number of its [`Kind`].
     pub kind: u8,
-    /// The kind's parameter.
-    pub parameter: i32,
     /// How many accesses there are.
     pub arity: u8,
     /// The accesses.
     pub accesses: [Access; 4],
+    /// The kind's parameter.
+    pub parameter: i32,
+    /// A predicted height for each access ([`predicting`](Job::predicting)); with modes other than 3 it is kept and not looked
+    /// at.
+    pub predicted: [i32; 4],
 }
 
 impl Job {
@@ -27,10 +30,52 @@ impl Job {
             *place = Access { cell, mode: mode.number() };
         }
         let arity = accesses.len().min(255) as u8;
-        Job { kind, parameter, arity, accesses: kept }
+        Job { kind, arity, accesses: kept, parameter, predicted: [0; 4] }
     }
 
-    /// A job whose result is the worker's own. The engine keeps its parameter, and makes nothing of it.
+    /// The job, with a forecast: it writes the cell, and predicts that it will find the height there when its turn comes (R46).
+    ///
+    /// Its guess is handed the prediction and waits for nobody on account of this cell. Its own run is handed the cell itself,
+    /// and a guess that was handed a wrong height falls, so a prediction may be wrong without harm. Only outside jobs may predict.
+    ///
+    /// The job's access to the cell becomes a [`PredictedWrite`](Mode::PredictedWrite), in its place and whatever its mode was.
+    /// Where there is none it comes last; a fifth is not kept but counted, which inserting refuses.
+    ///
+    /// ```
+    /// # use sorghemi::{Batch, Job, Mode, Report};
+    /// # fn main() -> Result<(), sorghemi::Refusal> {
+    /// let mut batch = Batch::open(&[1500, 12])?;
+    /// let gauge = batch.insert(Job::outside(0, &[(0, Mode::Write)]))?;
+    /// let table = batch.insert(Job::outside(0, &[(0, Mode::Write), (1, Mode::Read)]).predicting(0, 1510))?;
+    /// batch.seal(true)?;
+    ///
+    /// // The table does not wait for the gauge: the forecast is 1510.
+    /// assert_eq!(batch.start_own(gauge)?, [1500, 0, 0, 0]);
+    /// assert_eq!(batch.start_speculation(table)?, [1510, 12, 0, 0]);
+    /// batch.report_speculation(table, Report::of(&[1522, 12]))?;
+    ///
+    /// // The gauge says so too, and the guess is kept.
+    /// batch.report_own(gauge, Report::of(&[1510]))?;
+    /// batch.commit(table)?;
+    /// assert_eq!(batch.cells(), [1522, 12]);
+    /// # Ok(())
+    /// # }
+    /// ```
+    pub fn predicting(mut self, cell: u8, height: i32) -> Job {
+        let count = usize::from(self.arity);
+        let place = self.accesses.iter().take(count).position(|access| access.cell == cell).unwrap_or(count);
+        if place == count {
+            self.arity = self.arity.saturating_add(1);
+        }
+        if let Some(access) = self.accesses.get_mut(place) {
+            *access = Access { cell, mode: Mode::PredictedWrite.number() };
+            self.predicted[place] = height;
+        }
+        self
+    }
+
+    /// A job whose result is the worker's own. The engine keeps its parameter, and makes nothing of it. Heights that it predicts
+    /// are given by [`predicting`](Job::predicting); they are 0 else.
     pub fn outside(parameter: i32, accesses: &[(u8, Mode)]) -> Job {
         Job::new(Kind::Outside.number(), parameter, accesses)
     }

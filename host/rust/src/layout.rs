@@ -16,12 +16,12 @@ macro_rules! places {
 
 /// The list as this crate has it: a version, then of each struct its size and the offsets of its fields, in bytes.
 pub fn wrapper_layout() -> Vec<u32> {
-    let mut list = vec![4];
+    let mut list = vec![5];
     places! { list:
         Record { cell_count, job_count, sealed, speculating, cells, jobs, runs, committed, running, phase }
         Run { handed, reported, wrote, sources, bypassed }
         JobSet { low, high }
-        Job { kind, parameter, arity, accesses }
+        Job { kind, arity, accesses, parameter, predicted }
         Access { cell, mode }
         Report { values, wrote }
         Handed { refusal, values }

@@ -35,6 +35,8 @@ named_numbers! {
         Write = 1,
         /// It writes the cell if its report says so.
         MaybeWrite = 2,
+        /// It writes the cell, and predicts what it will find there ([`Job::predicting`](crate::Job::predicting)).
+        PredictedWrite = 3,
     }
 }
 
@@ -129,7 +131,7 @@ mod tests {
     #[test]
     fn numbers_and_names_are_one_to_one() {
         for number in 0..=255 {
-            assert_eq!(Mode::from_number(number).map(Mode::number), (number < 3).then_some(number));
+            assert_eq!(Mode::from_number(number).map(Mode::number), (number < 4).then_some(number));
             assert_eq!(Kind::from_number(number).map(Kind::number), (number < 7).then_some(number));
             assert_eq!(Step::from_number(number).map(Step::number), (number < 5).then_some(number));
             assert_eq!(Committed::from_number(number).map(Committed::number), (number < 3).then_some(number));

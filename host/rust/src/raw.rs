@@ -3,7 +3,7 @@
 use crate::job::{Job, Report};
 use crate::tally::Tally;
 
-/// One access of a job: a cell by its number, and its mode: 0 read, 1 write, 2 maybe-write.
+/// One access of a job: a cell by its number, and its mode: 0 read, 1 write, 2 maybe-write, 3 predicted write.
 #[repr(C)]
 #[derive(Clone, Copy, Debug, PartialEq, Eq)]
 pub struct Access {
@@ -33,7 +33,7 @@ pub struct Run {
     pub reported: [i32; 4],
     /// The mark of the report.
     pub wrote: u8,
-    /// For each access one more than the job that the value was taken from, 0 for the cell itself.
+    /// For each access one more than the job that the value was taken from, 0 for the cell itself or a prediction.
     pub sources: [u8; 4],
     /// The jobs looked past.
     pub bypassed: JobSet,

@@ -50,7 +50,7 @@ refusals! {
     3 TOO_MANY_JOBS "128 jobs are held already"
     4 ACCESS_COUNT "a job has 1 to 4 accesses"
     5 NO_SUCH_CELL "there is no such cell"
-    6 NO_SUCH_MODE "a mode is 0 (read), 1 (write) or 2 (maybe-write)"
+    6 NO_SUCH_MODE "a mode is 0 (read), 1 (write), 2 (maybe-write) or 3 (predicted write)"
     7 CELL_TWICE "a cell stands twice in the job"
     8 WRONG_KIND "there is no such kind, its modes are others, or it has no result built in"
     9 WRONG_SWITCH "the guess switch is 0 or 1"

@@ -35,9 +35,11 @@ impl fmt::Debug for Held {
         if let Some(kind) = job.named_kind() {
             write!(f, "{kind:?} {}", job.parameter)?;
         }
-        for access in job.accesses.iter().take(job.arity as usize) {
-            if let Some(mode) = Mode::from_number(access.mode) {
-                write!(f, " {mode:?}({})", access.cell)?;
+        for (access, height) in job.accesses.iter().zip(job.predicted).take(job.arity as usize) {
+            match Mode::from_number(access.mode) {
+                Some(mode @ Mode::PredictedWrite) => write!(f, " {mode:?}({}, {height})", access.cell)?,
+                Some(mode) => write!(f, " {mode:?}({})", access.cell)?,
+                None => {}
             }
         }
         write!(f, ": {committed:?}")?;
