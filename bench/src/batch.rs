@@ -6,6 +6,7 @@
 pub const READ: u8 = 0;
 pub const WRITE: u8 = 1;
 pub const UNCERTAIN_WRITE: u8 = 2;
+pub const PREDICTED_WRITE: u8 = 3;
 
 pub const MOST_ACCESSES: usize = 4;
 
@@ -21,6 +22,8 @@ pub struct Job {
     pub arity: u8,
     pub accesses: [Access; MOST_ACCESSES],
     pub parameter: i32,
+    /// A prediction for each access, of no meaning but with [`PREDICTED_WRITE`].
+    pub predicted: [i32; MOST_ACCESSES],
 }
 
 impl Job {
@@ -37,6 +40,7 @@ impl Job {
             arity: cells.len() as u8,
             accesses,
             parameter,
+            predicted: [0; MOST_ACCESSES],
         }
     }
 

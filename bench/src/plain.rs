@@ -5,7 +5,7 @@
 //! All state is in fixed arrays. A set of jobs is one word of 128 bits, so that
 //! readiness is one mask, and a pass over the jobs touches only those in question.
 
-use crate::batch::{modes, Access, Job, READ, UNCERTAIN_WRITE, WRITE};
+use crate::batch::{modes, Access, Job, PREDICTED_WRITE, READ, UNCERTAIN_WRITE, WRITE};
 use crate::engine::{self, Engine};
 
 pub const MOST_CELLS: usize = 64;
@@ -97,7 +97,7 @@ fn refusal_of_job(job: &Job, cell_count: usize) -> u8 {
     if used.iter().any(|access| access.cell as usize >= cell_count) {
         return 5;
     }
-    if used.iter().any(|access| access.mode > UNCERTAIN_WRITE) {
+    if used.iter().any(|access| access.mode > PREDICTED_WRITE) {
         return 6;
     }
     let seen = used
@@ -120,8 +120,13 @@ fn refusal_of_job(job: &Job, cell_count: usize) -> u8 {
     }
 }
 
+/// A predicted write is a write (R23).
+fn surely_writes(access: &Access) -> bool {
+    matches!(access.mode, WRITE | PREDICTED_WRITE)
+}
+
 fn writes(access: &Access, wrote: bool) -> bool {
-    access.mode == WRITE || (access.mode == UNCERTAIN_WRITE && wrote)
+    surely_writes(access) || (access.mode == UNCERTAIN_WRITE && wrote)
 }
 
 // Opening, inserting, sealing.
@@ -175,7 +180,7 @@ impl Plain {
             }
             match access.mode {
                 READ => uses.readers |= only(number),
-                WRITE => uses.writers |= only(number),
+                WRITE | PREDICTED_WRITE => uses.writers |= only(number),
                 _ => uses.uncertain_writers |= only(number),
             }
         }
@@ -263,6 +268,9 @@ impl Plain {
     /// Whether each writer that the job would meet has a stored report.
     fn can_speculate(&self, job: usize) -> bool {
         self.jobs[job].used().iter().all(|access| {
+            if access.mode == PREDICTED_WRITE {
+                return true;
+            }
             let writer = self.nearest_writer(job, access.cell);
             writer.map_or(true, |writer| has(self.speculation_stored, writer))
         })
@@ -274,10 +282,14 @@ impl Plain {
         let mut handed = self.present_values(job);
         let mut bypassed = 0;
         let mut sources = 0;
-        for (value, access) in handed.iter_mut().zip(self.jobs[job].used()) {
+        for (place, access) in self.jobs[job].used().iter().enumerate() {
+            if access.mode == PREDICTED_WRITE {
+                handed[place] = self.jobs[job].predicted[place];
+                continue;
+            }
             let mut between = self.uses[access.cell as usize].uncertain_writers & earlier;
             if let Some(writer) = self.nearest_writer(job, access.cell) {
-                *value = self.speculated_value(writer, access.cell);
+                handed[place] = self.speculated_value(writer, access.cell);
                 sources |= only(writer);
                 between &= !below(writer);
             }

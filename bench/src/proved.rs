@@ -18,12 +18,13 @@ use crate::stack;
 fn read(job: &Job) -> sorghemi::Job {
     sorghemi::Job {
         kind: job.kind,
-        parameter: job.parameter,
         arity: job.arity,
         accesses: job.accesses.map(|access| Access {
             cell: access.cell,
             mode: access.mode,
         }),
+        parameter: job.parameter,
+        predicted: job.predicted,
     }
 }
 

@@ -26,10 +26,13 @@ impl Engine for SecondHand {
     }
 
     fn insert(&mut self, job: &Job) -> u8 {
-        let mut accesses = [hand::Access { cell: 0, mode: 0 }; 4];
-        for (theirs, ours) in accesses.iter_mut().zip(job.used()) {
-            theirs.cell = u32::from(ours.cell);
-            theirs.mode = u32::from(ours.mode);
+        let mut accesses = [hand::Access::to(0, 0); 4];
+        for (place, access) in job.used().iter().enumerate() {
+            accesses[place] = hand::Access {
+                cell: u32::from(access.cell),
+                mode: u32::from(access.mode),
+                predicted: job.predicted[place],
+            };
         }
         let used = &accesses[..job.arity as usize];
         answer(self.0.insert(u32::from(job.kind), job.parameter, used))
@@ -93,12 +96,14 @@ mod tests {
         job.arity = modes.map_or(random.below(5), |modes| modes.len() as u32) as u8;
         for place in 0..job.arity as usize {
             let (cell_over, mode_over) = (rarely(random, 30), rarely(random, 40));
-            let mode = random.below(3 + mode_over) as u8;
+            let mode = random.below(4 + mode_over) as u8;
             job.accesses[place] = Access {
                 cell: random.below(cells + cell_over) as u8,
                 mode: modes.map_or(mode, |modes| modes[place]),
             };
         }
+        // In the range of the heights, so that some predictions are right.
+        job.predicted = [0; 4].map(|_: i32| random.below(50) as i32);
         job
     }
 
