@@ -18,6 +18,7 @@ use crate::tally::Tally;
 pub const READ: u32 = 0;
 pub const WRITE: u32 = 1;
 pub const MAYBE: u32 = 2;
+pub const PREDICTED: u32 = 3;
 
 /// R50: the five steps.
 pub const START_OWN: u32 = 0;
@@ -34,6 +35,15 @@ pub const MOST_JOBS: usize = 128;
 pub struct Access {
     pub cell: u32,
     pub mode: u32,
+    /// R3: held as given with any mode, and looked at with mode 3 alone.
+    pub predicted: i32,
+}
+
+impl Access {
+    /// One with the prediction 0.
+    pub fn to(cell: u32, mode: u32) -> Access {
+        Access { cell, mode, predicted: 0 }
+    }
 }
 
 #[derive(Clone, Debug, PartialEq, Eq)]
@@ -143,10 +153,20 @@ impl Job {
         self.accesses.iter().any(|access| access.mode == MAYBE)
     }
 
+    /// Whether its guess is handed a prediction (R46).
+    pub(crate) fn predicts(&self) -> bool {
+        self.accesses.iter().any(|access| access.mode == PREDICTED)
+    }
+
     /// R33: whether a report with this mark writes the cell of this access.
     fn writes(access: &Access, mark: u32) -> bool {
-        access.mode == WRITE || (access.mode == MAYBE && mark == 1)
+        is_write(access.mode) || (access.mode == MAYBE && mark == 1)
     }
+}
+
+/// R23: a predicted write is a write.
+fn is_write(mode: u32) -> bool {
+    mode == WRITE || mode == PREDICTED
 }
 
 /// R20: a cell in common, and not both only read it.
@@ -190,8 +210,8 @@ impl Batch {
         if accesses.iter().any(|access| access.cell as usize >= self.cells.len()) {
             return Err(5);
         }
-        // R106: another mode than 0, 1 and 2.
-        if accesses.iter().any(|access| access.mode > MAYBE) {
+        // R106: a mode above 3.
+        if accesses.iter().any(|access| access.mode > PREDICTED) {
             return Err(6);
         }
         // R107: a cell twice.
@@ -262,9 +282,10 @@ impl Batch {
         self.guess_handed(job as u32) == Some(self.present_values(job))
     }
 
-    /// R43; or by the former rule, where the batch is worked by that.
+    /// R43; or by the former rule, where the batch is worked by that. It knew no
+    /// predictions (R185): a guess that was handed one goes by R43 all the same.
     fn guess_stands(&self, job: usize) -> bool {
-        let sound = match self.by_former_rule {
+        let sound = match self.by_former_rule && !self.jobs[job].job.predicts() {
             false => self.was_handed_present(job),
             true => !former::has_fallen(self, job),
         };
@@ -315,12 +336,17 @@ impl Batch {
     ///
     /// R41: for each access, back through the unsettled jobs. Maybe-writers of
     /// the cell are looked past; the first writer ends it, and what its guess has
-    /// stored is taken. Without a writer the present value stays.
+    /// stored is taken. Without a writer the present value stays. R46: for a
+    /// predicted write there is no going back.
     fn new_guess(&self, job: usize) -> Option<Guess> {
         let mut handed = self.present_values(job);
         let mut looked_past = BTreeSet::new();
         let mut taken_from = BTreeSet::new();
         for (place, access) in self.jobs[job].job.accesses.iter().enumerate() {
+            if access.mode == PREDICTED {
+                handed[place] = access.predicted;
+                continue;
+            }
             for earlier in (0..job).rev() {
                 if self.is_settled(earlier) {
                     continue;
@@ -329,7 +355,7 @@ impl Batch {
                     Some((_, MAYBE)) => {
                         looked_past.insert(earlier);
                     }
-                    Some((there, WRITE)) => {
+                    Some((there, mode)) if is_write(mode) => {
                         // Also of a fallen guess, but not by the former rule.
                         let report = self.stored_report(earlier)?;
                         if self.by_former_rule && former::has_fallen(self, earlier) {
@@ -503,7 +529,7 @@ impl Batch {
         Ok(handed)
     }
 
-    /// R52: hands out what R41 finds.
+    /// R52: hands out what R41 and R46 find.
     pub fn start_guess(&mut self, number: u32) -> Result<[i32; 4], u32> {
         let guess = self.check_start_guess(number)?;
         let handed = guess.handed;

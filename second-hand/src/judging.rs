@@ -5,9 +5,10 @@
 use crate::engine::{Batch, Guess, GuessState, MAYBE, REPORT_OWN, SETTLE, START_GUESS};
 use crate::former::{falls, is_marked, Fell};
 
-/// What may be met of a guess, each at most once of one guess. Where another height was
-/// there before the job was ready, only guesses that took from none are meant: the
-/// others are handed what is not there yet.
+/// What may be met of a guess, each at most once of one guess; what is met of guesses that
+/// were handed a prediction is in `predictions`. Where another height was there before the
+/// job was ready, only guesses that took from none are meant: the others are handed what is
+/// not there yet.
 pub const MET: [&str; 23] = [
     "stands, as by the former rule",
     "stands though a job looked past has mark 1, all such with the heights that were there",
@@ -109,9 +110,11 @@ impl Watch {
     /// (R44) while its job is not settled.
     fn look(&mut self, batch: &Batch, job: usize, fell: Fell) {
         let judged = batch.ask_guess(job as u32).unwrap();
+        let predicts = batch.job(job as u32).unwrap().predicts();
         let seen = &mut self.jobs[job];
         match judged {
             0 => {}
+            1 if predicts => {}
             1 => {
                 let guess = batch.guess(job as u32).unwrap();
                 let other = guess.taken_from.is_empty() && !wrong(batch, job).is_empty();
@@ -120,9 +123,11 @@ impl Watch {
             }
             _ if seen.judged.is_some() => assert_eq!(seen.judged, Some(judged), "R44, job {job}"),
             _ => {
-                assert!(judged == 2 || fell.at_all(), "R185, job {job}");
                 seen.judged = Some(judged);
-                self.count(batch, job, judged == 2, fell);
+                if !predicts {
+                    assert!(judged == 2 || fell.at_all(), "R185, job {job}");
+                    self.count(batch, job, judged == 2, fell);
+                }
             }
         }
     }

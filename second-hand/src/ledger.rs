@@ -22,8 +22,8 @@ pub struct Counted {
 pub struct Guess {
     pub handed: [i32; 4],
     pub report: Option<Report>,
-    /// The jobs that it looked past and those that it took from, by R41, as the
-    /// ledger stood when it started; going up.
+    /// The jobs that it looked past and those that it took from, by R41 and R46, as
+    /// the ledger stood when it started; going up.
     pub looked_past: Vec<usize>,
     pub taken_from: Vec<usize>,
 }
@@ -42,6 +42,9 @@ pub struct Line {
     /// R163: the accepted steps.
     pub steps: u32,
 }
+
+/// R23: the modes that write whatever the mark is.
+const SURE_WRITES: [u8; 2] = [1, 3];
 
 #[derive(Clone, Debug)]
 pub struct Ledger {
@@ -93,19 +96,21 @@ impl Ledger {
 
     /// R41, as the ledger stands. Of a cell of the job the guess takes from the last
     /// open writer before it, and looks past the open maybe-writers after that one, or
-    /// past all of them where there is none.
+    /// past all of them where there is none. R46: of a predicted one neither.
     fn new_guess(&self, job: usize, handed: [i32; 4]) -> Guess {
         let (mut looked_past, mut taken_from) = (BTreeSet::new(), BTreeSet::new());
-        for &(cell, _) in self.jobs[job].job.used() {
-            let open = |mode: u8| {
+        let used = self.jobs[job].job.used().iter();
+        for &(cell, _) in used.filter(|access| access.1 != 3) {
+            let open = |modes: &'static [u8]| {
                 let before = self.jobs[..job].iter().enumerate();
                 let open = before.filter(|(_, line)| line.counted.is_none());
-                let having = open.filter(move |(_, line)| line.job.used().contains(&(cell, mode)));
+                let has = move |&(other, mode): &(u8, u8)| other == cell && modes.contains(&mode);
+                let having = open.filter(move |(_, line)| line.job.used().iter().any(has));
                 having.map(|(other, _)| other)
             };
-            let writer = open(1).last();
+            let writer = open(&SURE_WRITES).last();
             taken_from.extend(writer);
-            looked_past.extend(open(2).filter(|&other| Some(other) > writer));
+            looked_past.extend(open(&[2]).filter(|&other| Some(other) > writer));
         }
         Guess {
             handed,
@@ -164,6 +169,31 @@ impl Ledger {
         self.jobs.iter().enumerate().map(judged).collect()
     }
 
+    /// R187: at each place in use with mode 3 the prediction that the job was inserted
+    /// with; none at any other.
+    pub fn predicted(&self, job: usize) -> [Option<i32>; 4] {
+        let Job {
+            arity,
+            accesses,
+            predicted,
+            ..
+        } = self.jobs[job].job;
+        let is_predicted = |place: usize| place < usize::from(arity) && accesses[place].1 == 3;
+        [0, 1, 2, 3].map(|place| is_predicted(place).then_some(predicted[place]))
+    }
+
+    /// R188: what start guess of the job hands out, whatever the jobs before it are at;
+    /// none where the rule does not speak of the job as it stands.
+    pub fn guessed_at_once(&self, job: usize) -> Option<[i32; 4]> {
+        let line = &self.jobs[job];
+        let predicted = self.predicted(job);
+        let all = predicted.iter().flatten().count() == line.job.used().len();
+        // A guess is struck out only where the own run is started.
+        let idle = line.counted.is_none() && line.own.is_none() && line.guess.is_none();
+        let speaks = self.sealed == Some(1) && idle && all && !self.is_ready(job);
+        speaks.then(|| predicted.map(Option::unwrap_or_default))
+    }
+
     /// R164: whether every job has a counted report.
     pub fn all_settled(&self) -> bool {
         self.jobs.iter().all(|line| line.counted.is_some())
@@ -181,8 +211,9 @@ impl Ledger {
                 before[place] = *height;
                 // R33. No cell stands twice in a job (R3), so none is read after
                 // it is written.
+                let writes = |mark| SURE_WRITES.contains(&mode) || (mode == 2 && mark == 1);
                 match line.counted {
-                    Some(counted) if mode == 1 || (mode == 2 && counted.report.mark == 1) => {
+                    Some(counted) if writes(counted.report.mark) => {
                         *height = counted.report.values[place];
                     }
                     _ => {}

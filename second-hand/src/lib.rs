@@ -11,6 +11,7 @@ pub mod ledger;
 pub mod lists;
 pub mod plan;
 pub mod plans;
+pub mod predictions;
 pub mod record;
 pub mod sets;
 pub mod tally;

@@ -71,6 +71,7 @@ fn accesses(job: &Job) -> Vec<Access> {
         Access {
             cell: u32::from(cell),
             mode: u32::from(mode),
+            predicted: job.predicted.get(place).copied().unwrap_or_default(),
         }
     };
     (0..usize::from(job.arity)).map(access).collect()
@@ -146,7 +147,7 @@ impl Manner {
         let pool = some_pool(dice);
         Manner {
             heights: (0..cells).map(|_| height_of(dice, &pool)).collect(),
-            jobs: (0..jobs).map(|_| sound_job(dice, cells)).collect(),
+            jobs: (0..jobs).map(|_| job_for(dice, cells, &pool)).collect(),
             early: early.min(FULL),
             guessing: u8::from(dice.percent(92)),
             by_rule: false,
@@ -169,7 +170,7 @@ impl Manner {
         let pool = twins(dice);
         Manner {
             heights: (0..cells).map(|_| height_of(dice, &pool)).collect(),
-            jobs: (0..jobs).map(|_| outside_job(dice, cells)).collect(),
+            jobs: (0..jobs).map(|_| outside_job(dice, cells, &pool)).collect(),
             early: dice.pick(&[jobs, jobs / 2, 0]),
             guessing: 1,
             by_rule: false,
@@ -181,6 +182,50 @@ impl Manner {
             same: dice.pick(&[0, 0, 30, 60, 90]),
             behind: dice.pick(&[0, 50]),
         }
+    }
+
+    /// Outside jobs of which no cells, some or all are predicted, and other kinds between
+    /// them. Half of the lists report by the one rule, so that it is known beforehand what
+    /// a job will find, and predictions are right or wrong by choice; in the others they are
+    /// of the few heights that there are.
+    pub fn predicting(dice: &mut Dice) -> Manner {
+        let manner = Manner::few_heights(dice);
+        let (cells, many) = (manner.heights.len(), manner.jobs.len());
+        let some = |_| predicting_job(dice, cells, &manner.pool);
+        let mut jobs: Vec<Job> = (0..many).map(some).collect();
+        let by_rule = dice.percent(50);
+        if by_rule {
+            predict(dice, &manner.heights, &mut jobs);
+        }
+        Manner {
+            jobs,
+            by_rule,
+            wild: dice.pick(&[0, 5, 20]),
+            ..manner
+        }
+    }
+
+    /// R176: two lists whose jobs differ in their predictions, and in what stands in places
+    /// not in use, and which report by one rule. In all else they may differ.
+    pub fn predicting_pair(dice: &mut Dice) -> [Manner; 2] {
+        let calm = |dice: &mut Dice| Manner {
+            guessing: u8::from(dice.percent(90)),
+            by_rule: true,
+            wild: 0,
+            ..Manner::predicting(dice)
+        };
+        let (first, other) = (calm(dice), calm(dice));
+        let mut jobs = first.jobs.clone();
+        predict(dice, &first.heights, &mut jobs);
+        for job in &mut jobs {
+            job.accesses[usize::from(job.arity)..].fill_with(|| any_access(dice));
+        }
+        let second = Manner {
+            heights: first.heights.clone(),
+            jobs,
+            ..other
+        };
+        [first, second]
     }
 
     /// Many jobs, most of which maybe-write, so that a guess may look past many, on both
@@ -342,13 +387,19 @@ impl Manner {
         if self.by_rule && held {
             return reported(&plain(&record.jobs[job]), handed);
         }
+        // A mark that R116 refuses is as rare as other wild calls.
         let may_write = held && record.jobs[job].has_maybe_write();
+        let marked = if may_write {
+            self.writes
+        } else {
+            self.wild / 2
+        };
         Report {
             values: handed.map(|value| match dice.percent(self.same) {
                 true => value,
                 false => height_of(dice, &self.pool),
             }),
-            mark: u32::from(may_write && dice.percent(self.writes)),
+            mark: u32::from(dice.percent(marked)),
         }
     }
 
@@ -360,10 +411,10 @@ impl Manner {
             0 => job.kind = dice.below(9) as u8,
             1 => job.arity = dice.pick(&[0, 1, 2, 3, 4, 5, 255]),
             2 => job.accesses[0].0 = self.heights.len() as u8,
-            3 => job.accesses[0].1 = dice.below(4) as u8,
+            3 => job.accesses[0].1 = dice.pick(&[0, 1, 2, 3, 3, 4, 5, 255]),
             4 => {
                 job.arity = job.arity.max(2);
-                job.accesses[1].0 = job.accesses[0].0;
+                job.accesses[1] = job.accesses[0];
             }
             _ => {}
         }
@@ -374,47 +425,109 @@ impl Manner {
 /// An outside job with accesses of any modes, or one of another kind with its own;
 /// inserting refuses it only where the batch is full.
 pub fn sound_job(dice: &mut Dice, cells: usize) -> Job {
+    job_for(dice, cells, &[])
+}
+
+/// The same, with predictions from the pool.
+fn job_for(dice: &mut Dice, cells: usize, pool: &[i32]) -> Job {
     let kind = dice.pick(&[0, 0, 0, 1, 2, 3, 4, 5, 6]);
     let modes: Vec<u32> = match kinds::modes(kind) {
         Some(modes) => modes.to_vec(),
-        None => any_modes(dice, 4),
+        None => any_modes(dice, 4, &[0, 1, 2, 2, 3]),
     };
     if modes.len() > cells {
-        return sound_job(dice, cells);
+        return job_for(dice, cells, pool);
     }
-    job_of(dice, cells, kind, &modes)
+    job_of(dice, cells, kind, &modes, pool)
 }
 
-/// An outside job with accesses of any modes, often to four cells.
-fn outside_job(dice: &mut Dice, cells: usize) -> Job {
+/// An outside job with accesses of any modes but 3, often to four cells.
+fn outside_job(dice: &mut Dice, cells: usize, pool: &[i32]) -> Job {
     let most = cells.min(4);
     let modes = match dice.percent(40) {
         true => (0..most).map(|_| dice.pick(&[0, 0, 1, 2])).collect(),
-        false => any_modes(dice, most as i64),
+        false => any_modes(dice, most as i64, &[0, 1, 2, 2]),
     };
-    job_of(dice, cells, 0, &modes)
+    job_of(dice, cells, 0, &modes, pool)
 }
 
-/// Those of one access up to so many.
-fn any_modes(dice: &mut Dice, most: i64) -> Vec<u32> {
+/// An outside job of which no cells, some or all are predicted, or one of any kind.
+fn predicting_job(dice: &mut Dice, cells: usize, pool: &[i32]) -> Job {
+    if dice.percent(20) {
+        return job_for(dice, cells, pool);
+    }
+    let mut job = outside_job(dice, cells, pool);
+    let share = dice.pick(&[0, 40, 70, 100]);
+    // Of the others sometimes all are written.
+    let writes = dice.percent(20);
+    for access in &mut job.accesses[..usize::from(job.arity)] {
+        if dice.percent(share) {
+            access.1 = 3;
+        } else if writes {
+            access.1 = 1;
+        }
+    }
+    job
+}
+
+/// Those of one access up to so many, each one of these.
+fn any_modes(dice: &mut Dice, most: i64, modes: &[u32]) -> Vec<u32> {
     let count = dice.range(1, most);
-    (0..count).map(|_| dice.pick(&[0, 1, 2, 2])).collect()
+    (0..count).map(|_| dice.pick(modes)).collect()
 }
 
-/// A job of the kind with these modes, on any of the cells.
-fn job_of(dice: &mut Dice, cells: usize, kind: u32, modes: &[u32]) -> Job {
+/// What stands in a place not in use: it may look like one in use.
+fn any_access(dice: &mut Dice) -> (u8, u8) {
+    (dice.below(5) as u8, dice.below(5) as u8)
+}
+
+/// A job of the kind with these modes, on any of the cells. It has predictions in all
+/// places: with other modes than 3 and in places not in use they mean nothing (R3).
+fn job_of(dice: &mut Dice, cells: usize, kind: u32, modes: &[u32], pool: &[i32]) -> Job {
     let mut order: Vec<u8> = (0..cells as u8).collect();
     dice.shuffle(&mut order);
-    let mut accesses = [(0, 0); 4];
+    let mut accesses = [(); 4].map(|()| any_access(dice));
     for (place, &mode) in modes.iter().enumerate() {
         accesses[place] = (order[place], mode as u8);
     }
     Job {
         kind: kind as u8,
-        parameter: height(dice),
         arity: modes.len() as u8,
         accesses,
+        parameter: height(dice),
+        predicted: [(); 4].map(|()| height_of(dice, pool)),
     }
+}
+
+/// Gives each job predictions, where all report by the one rule: of one job all are
+/// right, all wrong, or each is either. Those of places not in use are any.
+fn predict(dice: &mut Dice, heights: &[i32], jobs: &mut [Job]) {
+    let right = foreseen(heights, jobs);
+    for (job, right) in jobs.iter_mut().zip(right) {
+        let wrong = dice.pick(&[0, 0, 50, 100]);
+        for (place, right) in right.into_iter().enumerate() {
+            job.predicted[place] = match place < usize::from(job.arity) {
+                true if dice.percent(wrong) => dice.twin(right),
+                true => right,
+                false => height(dice),
+            };
+        }
+    }
+}
+
+/// What each job finds in its cells: what its own run is handed when all jobs run one
+/// after the other and report by the one rule (R176).
+fn foreseen(heights: &[i32], jobs: &[Job]) -> Vec<[i32; 4]> {
+    let mut record = Record::open(heights).unwrap();
+    record.seal(0);
+    let run = |(number, &job): (usize, &Job)| {
+        record.insert(job);
+        let (_, found) = record.step(0, number, NOTHING, 0);
+        let Report { values, mark } = reported(&plain(&job), found);
+        record.step(2, number, values, mark as u8);
+        found
+    };
+    jobs.iter().enumerate().map(run).collect()
 }
 
 /// An outside job on cells that come up with it, which it maybe-writes, or have come up
@@ -432,16 +545,17 @@ fn maybe_writer(dice: &mut Dice, number: usize, firsts: &[usize], writers: usize
     for (place, &cell) in cells.iter().enumerate() {
         let mode = match firsts[cell] == number {
             true => 2,
-            false if dice.percent(writers) => 1,
+            false if dice.percent(writers) => dice.pick(&[1, 3]),
             false => mostly,
         };
         accesses[place] = (cell as u8, mode);
     }
     Job {
         kind: 0,
-        parameter: 0,
         arity: cells.len() as u8,
         accesses,
+        parameter: 0,
+        predicted: [(); 4].map(|()| height(dice)),
     }
 }
 
@@ -456,7 +570,8 @@ fn plain(job: &Job) -> engine::Job {
 
 /// R176: one fixed rule of the values handed to a run: the kind's result. An outside
 /// job goes by a sum of all that it was handed: it may write or not, and writes the
-/// heights that were there, all but one of them, or others.
+/// heights that were there, all but one of them, or others. What was predicted is not
+/// looked at: jobs that differ in that alone are the same.
 pub fn reported(job: &engine::Job, handed: [i32; 4]) -> Report {
     let outside = |_| {
         let next = |sum: i32, value: &i32| sum.wrapping_mul(3).wrapping_add(*value);

@@ -226,7 +226,7 @@ fn accesses_of(kind: u32, cells: &[u32]) -> Vec<Access> {
     let mut accesses = Vec::new();
     for (place, &cell) in cells.iter().enumerate() {
         let mode = modes.get(place).copied().unwrap_or(READ);
-        accesses.push(Access { cell, mode });
+        accesses.push(Access::to(cell, mode));
     }
     accesses
 }

@@ -230,7 +230,7 @@ fn opened(draft: &Draft) -> Option<Batch> {
     for (kind, p, cells) in &draft.jobs {
         let modes = kinds::modes(*kind)?;
         let accesses: Vec<Access> =
-            cells.iter().zip(modes).map(|(&cell, &mode)| Access { cell, mode }).collect();
+            cells.iter().zip(modes).map(|(&cell, &mode)| Access::to(cell, mode)).collect();
         batch.insert(*kind, *p, &accesses).ok()?;
     }
     batch.seal(draft.guess).ok()?;

@@ -21,6 +21,7 @@ use crate::tally::Tally;
 const READ: u8 = 0;
 const WRITE: u8 = 1;
 const MAYBE: u8 = 2;
+const PREDICTED: u8 = 3;
 
 const START_OWN: u8 = 0;
 const START_GUESS: u8 = 1;
@@ -76,13 +77,15 @@ pub struct Record {
 }
 
 /// R3: a job as inserted. The first `arity` accesses are in use; each is a cell
-/// and a mode.
+/// and a mode. The predictions are those of the accesses in their order, and are held
+/// as given with any mode, in places not in use too.
 #[derive(Clone, Copy, PartialEq, Eq, Debug, Default)]
 pub struct Job {
     pub kind: u8,
-    pub parameter: i32,
     pub arity: u8,
     pub accesses: [(u8, u8); 4],
+    pub parameter: i32,
+    pub predicted: [i32; 4],
 }
 
 /// R90: the one run that a job holds, its own or its guess.
@@ -98,7 +101,7 @@ pub struct Run {
     pub bypassed: u128,
 }
 
-/// R72: how a job stands. All as the record has it, accesses not in use too; but
+/// R72: how a job stands. All as the record has it, places not in use too; but
 /// `wrote` is 0 while the job is not settled, and `validity` is how its guess is
 /// judged (R45). Zeros where it is refused (R81).
 #[derive(Clone, Copy, PartialEq, Eq, Debug, Default)]
@@ -130,12 +133,12 @@ pub struct BatchAnswer {
 
 const CELLS_AT: usize = 4;
 const JOBS_AT: usize = 260;
-const JOB_SIZE: usize = 20;
-const RUNS_AT: usize = 2824;
+const JOB_SIZE: usize = 32;
+const RUNS_AT: usize = 4360;
 const RUN_SIZE: usize = 56;
-const COMMITTED_AT: usize = 9992;
-const RUNNING_AT: usize = 10120;
-const PHASE_AT: usize = 10248;
+const COMMITTED_AT: usize = 11528;
+const RUNNING_AT: usize = 11656;
+const PHASE_AT: usize = 11784;
 
 fn height_at(bytes: &[u8], at: usize) -> i32 {
     i32::from_le_bytes([bytes[at], bytes[at + 1], bytes[at + 2], bytes[at + 3]])
@@ -152,13 +155,15 @@ fn column_at(bytes: &[u8], at: usize) -> [u8; 128] {
 }
 
 impl Job {
-    /// Kind at 0, parameter at 4, arity at 8, accesses of two bytes each at 9.
+    /// Kind at 0, arity at 1, accesses of two bytes each at 2, parameter at 12,
+    /// predictions at 16.
     fn from_bytes(bytes: &[u8]) -> Job {
         Job {
             kind: bytes[0],
-            parameter: height_at(bytes, 4),
-            arity: bytes[8],
-            accesses: [9, 11, 13, 15].map(|at| (bytes[at], bytes[at + 1])),
+            arity: bytes[1],
+            accesses: [2, 4, 6, 8].map(|at| (bytes[at], bytes[at + 1])),
+            parameter: height_at(bytes, 12),
+            predicted: four_heights_at(bytes, 16),
         }
     }
 }
@@ -183,7 +188,7 @@ impl Run {
 
 impl Record {
     /// The bytes of one record.
-    pub const SIZE: usize = 10376;
+    pub const SIZE: usize = 11912;
 
     /// The record that lies in these bytes. Panics if they are not `SIZE`.
     pub fn from_bytes(bytes: &[u8]) -> Record {
@@ -241,7 +246,7 @@ impl Job {
     }
 
     /// The place of this cell among the accesses in use, and its mode there.
-    fn access_to(&self, cell: u8) -> Option<(usize, u8)> {
+    pub(crate) fn access_to(&self, cell: u8) -> Option<(usize, u8)> {
         let place = self.used().iter().position(|access| access.0 == cell)?;
         Some((place, self.accesses[place].1))
     }
@@ -263,6 +268,11 @@ impl Job {
         self.used().iter().any(|access| access.1 == MAYBE)
     }
 
+    /// Whether its guess is handed a prediction (R46).
+    pub fn predicts(&self) -> bool {
+        self.used().iter().any(|access| access.1 == PREDICTED)
+    }
+
     /// With which of 4 to 8 inserting refuses this job; 0 with none of them.
     fn refusal(&self, cell_count: u8) -> u8 {
         // R104: not 1 to 4 accesses.
@@ -274,8 +284,8 @@ impl Job {
         if used.iter().any(|&(cell, _)| cell >= cell_count) {
             return 5;
         }
-        // R106: another mode than 0, 1 and 2.
-        if used.iter().any(|&(_, mode)| mode > MAYBE) {
+        // R106: a mode above 3.
+        if used.iter().any(|&(_, mode)| mode > PREDICTED) {
             return 6;
         }
         // R107: a cell twice.
@@ -315,9 +325,14 @@ impl Run {
     }
 }
 
+/// R23: a predicted write is a write.
+fn is_write(mode: u8) -> bool {
+    mode == WRITE || mode == PREDICTED
+}
+
 /// R33: whether a report with this mark writes the cell of an access of this mode.
 fn is_written(mode: u8, mark: u8) -> bool {
-    mode == WRITE || (mode == MAYBE && mark == 1)
+    is_write(mode) || (mode == MAYBE && mark == 1)
 }
 
 // ---------------------------------------------------------------------------
@@ -376,7 +391,7 @@ impl Record {
             return refusal;
         }
         // R92, R94: all of the place is overwritten, with zeros but for the job.
-        // R6: the job is held as given, accesses not in use too.
+        // R6, R3: the job is held as given, places not in use and predictions too.
         let place = usize::from(self.job_count);
         self.jobs[place] = job;
         self.runs[place] = Run::default();
@@ -491,21 +506,26 @@ impl<'a> Rules<'a> {
     ///
     /// R41: for each access, back through the unsettled jobs. Maybe-writers of
     /// the cell are looked past; the first writer ends it, and what its guess has
-    /// stored is taken. Without a writer the present value stays.
+    /// stored is taken. Without a writer the present value stays. R46: for a
+    /// predicted write there is no going back.
     fn new_guess(&self, job: usize) -> Option<Run> {
         let record = self.record;
         let mut run = Run {
             handed: record.present_values(job),
             ..Run::default()
         };
-        for (place, &(cell, _)) in record.jobs[job].used().iter().enumerate() {
+        for (place, &(cell, mode)) in record.jobs[job].used().iter().enumerate() {
+            if mode == PREDICTED {
+                run.handed[place] = record.jobs[job].predicted[place];
+                continue;
+            }
             for earlier in (0..job).rev() {
                 if self.is_settled(earlier) || self.cells[earlier] >> cell & 1 == 0 {
                     continue;
                 }
                 match record.jobs[earlier].access_to(cell) {
                     Some((_, MAYBE)) => run.bypassed |= 1 << earlier,
-                    Some((there, WRITE)) => {
+                    Some((there, mode)) if is_write(mode) => {
                         // Fallen or not.
                         if record.phase[earlier] != STORED {
                             return None;
@@ -678,7 +698,7 @@ impl Record {
         }
     }
 
-    /// R52, R94: the run becomes what R41 finds, and zeros else.
+    /// R52, R94: the run becomes what R41 and R46 find, and zeros else.
     fn start_guess(&mut self, job: usize, run: Run) {
         self.runs[job] = run;
         self.phase[job] = OUT;

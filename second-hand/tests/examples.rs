@@ -1,8 +1,10 @@
-//! The worked examples of the rules, P1 to P15, Monday's and Thursday's batch, and
+//! The worked examples of the rules, P1 to P18, Monday's and Thursday's batch, and
 //! some others.
 
 use second_hand::answer;
-use second_hand::engine::{conflict, Access, Batch, Job, Report, Settled, MAYBE, READ, WRITE};
+use second_hand::engine::{
+    conflict, Access, Batch, Job, Report, Settled, MAYBE, PREDICTED, READ, WRITE,
+};
 use second_hand::kinds;
 use second_hand::lists::{Answer, Call};
 use second_hand::record::{self, Record};
@@ -14,7 +16,7 @@ fn told(plan: &str) -> String {
 }
 
 fn on(cell: u32, mode: u32) -> Access {
-    Access { cell, mode }
+    Access::to(cell, mode)
 }
 
 fn report(values: [i32; 4], mark: u32) -> Report {
@@ -155,6 +157,12 @@ fn p7_conflict() {
     assert!(conflict(&job(0, READ), &job(0, WRITE)));
     assert!(conflict(&job(0, WRITE), &job(0, WRITE)));
     assert!(!conflict(&job(0, WRITE), &job(1, WRITE)));
+    // R23: a predicted write is a write.
+    for mode in [READ, WRITE, MAYBE, PREDICTED] {
+        assert!(conflict(&job(0, mode), &job(0, PREDICTED)));
+        assert!(conflict(&job(0, PREDICTED), &job(0, mode)));
+        assert!(!conflict(&job(0, PREDICTED), &job(1, mode)));
+    }
 }
 
 #[test]
@@ -312,15 +320,20 @@ impl Both {
     }
 
     fn insert_on(&mut self, kind: u8, parameter: i32, used: &[(u8, u8)]) {
+        assert_eq!(self.try_insert(kind, parameter, used, 0), 0);
+    }
+
+    /// The prediction is that of the first access.
+    fn try_insert(&mut self, kind: u8, parameter: i32, used: &[(u8, u8)], prediction: i32) -> u8 {
         let mut accesses = [(0, 0); 4];
         accesses[..used.len()].copy_from_slice(used);
-        let job = record::Job {
+        self.call(Call::Insert(record::Job {
             kind,
-            parameter,
             arity: used.len() as u8,
             accesses,
-        };
-        assert_eq!(self.call(Call::Insert(job)), 0);
+            parameter,
+            predicted: [prediction, 0, 0, 0],
+        }))
     }
 
     /// 0 or the refusal, the same from both.
@@ -615,4 +628,89 @@ fn p15_the_source_gives_another() {
     assert_eq!(both.tried(0, 2), (0, [1501, 0, 0, 0]));
     assert_eq!(both.step(2, 2), 0);
     both.stands(true, [1521]);
+}
+
+/// P16's batch, with job 0's own run out; the cell of job 1 has this mode.
+fn p16(mode: u8) -> Both {
+    let mut both = Both::open(&[1500]);
+    both.insert(0, 0, 1);
+    assert_eq!(both.try_insert(0, 0, &[(0, mode)], 1510), 0);
+    assert_eq!(both.call(Call::Seal(1)), 0);
+    assert_eq!(both.step_with(0, 0, 0, 0), (0, [1500, 0, 0, 0]));
+    both
+}
+
+/// The guess of job 1 reports 1530, and job 0 this height.
+fn p16_reported(height: i32) -> Both {
+    let mut both = p16(3);
+    assert_eq!(both.step_with(1, 1, 0, 0), (0, [1510, 0, 0, 0]));
+    both.tells(1, (0, None), (0, None));
+    assert_eq!(both.step_with(3, 1, 1530, 0).0, 0);
+    both.judges([0, 1]);
+    assert_eq!(both.step_with(2, 0, height, 0).0, 0);
+    both
+}
+
+#[test]
+fn p16_a_prediction_that_was_right() {
+    assert_eq!(p16(1).step_with(1, 1, 0, 0).0, 15);
+    let mut both = p16_reported(1510);
+    both.judges([0, 2]);
+    assert_eq!(both.step_with(0, 1, 0, 0).0, 17);
+    assert_eq!(both.step_with(4, 1, 0, 0).0, 0);
+    both.stands(true, [1530]);
+}
+
+#[test]
+fn p16_a_prediction_that_was_wrong() {
+    let mut both = p16_reported(1511);
+    both.judges([0, 3]);
+    assert_eq!(both.step_with(4, 1, 0, 0).0, 18);
+    assert_eq!(both.step_with(0, 1, 0, 0), (0, [1511, 0, 0, 0]));
+    both.has([2, 1, 0, 1, 0]);
+    assert_eq!(both.step_with(2, 1, 1531, 0).0, 0);
+    both.stands(true, [1531]);
+}
+
+#[test]
+fn p17_a_prediction_beside_other_cells() {
+    let mut both = Both::open(&[1500, 1480]);
+    both.insert_on(4, 1400, &[(0, 2)]);
+    both.insert_on(4, 1400, &[(1, 2)]);
+    assert_eq!(both.try_insert(0, 0, &[(0, 3), (1, 0)], 1510), 0);
+    both.insert_on(2, 5, &[(0, 1)]);
+    assert_eq!(both.call(Call::Seal(1)), 0);
+    assert_eq!(both.step(1, 3), 15);
+    assert_eq!(both.step_with(1, 2, 0, 0), (0, [1510, 1480, 0, 0]));
+    both.tells(2, (1, Some(1)), (1, Some(1)));
+    assert_eq!(both.step(1, 3), 15);
+    assert_eq!(both.step_with(3, 2, 1520, 0).0, 0);
+    assert_eq!(both.tried(1, 3), (0, [1520, 0, 0, 0]));
+    assert_eq!(both.step(3, 3), 0);
+    for job in 0..2 {
+        assert_eq!(both.step(0, job), 0);
+        assert_eq!(both.step(2, job), 0);
+        assert_eq!(both.record.ask_job(job).wrote, 0);
+    }
+    // Cell 0 holds 1500.
+    both.judges([0, 0, 3, 1]);
+    assert_eq!(both.step_with(0, 2, 0, 0), (0, [1500, 1480, 0, 0]));
+    assert_eq!(both.step_with(2, 2, 1520, 0).0, 0);
+    both.judges([0, 0, 0, 2]);
+    assert_eq!(both.step(4, 3), 0);
+    both.stands(true, [1525, 1480]);
+}
+
+#[test]
+fn p18_refusals_of_modes() {
+    let mut both = Both::open(&[1500]);
+    assert_eq!(both.try_insert(0, 0, &[(0, 4)], 1510), 6);
+    assert_eq!(both.try_insert(2, 20, &[(0, 3)], 1510), 8);
+    assert_eq!(both.record.job_count, 0);
+    assert_eq!(both.try_insert(0, 0, &[(0, 3)], 1510), 0);
+    assert_eq!(both.call(Call::Seal(1)), 0);
+    assert_eq!(both.step_with(0, 0, 0, 0), (0, [1500, 0, 0, 0]));
+    assert_eq!(both.step_with(2, 0, 1520, 1).0, 16);
+    assert_eq!(both.step_with(2, 0, 1520, 0).0, 0);
+    both.stands(true, [1520]);
 }

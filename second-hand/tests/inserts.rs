@@ -199,6 +199,7 @@ fn finished_again_and_again() {
         parameter: 1,
         arity: 1,
         accesses: [(0, 1), (0, 0), (0, 0), (0, 0)],
+        ..Job::default()
     };
     for job in 0..128usize {
         assert!(record.ask_batch().finished);

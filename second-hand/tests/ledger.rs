@@ -97,8 +97,11 @@ fn random_lists() {
 /// Works the list to its end: the cells and the marks, as asked for.
 fn worked_out(dice: &mut Dice, manner: &Manner) -> (Vec<i32>, Vec<u8>) {
     let mut worked = Worked::open(&manner.heights);
+    let mut calls = 0;
     while !manner.is_done(&worked.record) {
         worked.go_on(dice, manner);
+        calls += 1;
+        assert!(calls < 200_000, "the list does not end");
     }
     worked.ledger.claim(&worked.cells(), &worked.settled());
     let marks = worked.settled().into_iter().map(|(_, mark)| mark);

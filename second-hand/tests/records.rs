@@ -11,6 +11,7 @@ use second_hand::tally::Tally;
 const READ: u8 = 0;
 const WRITE: u8 = 1;
 const MAYBE: u8 = 2;
+const PREDICTED: u8 = 3;
 
 struct Dice(u64);
 
@@ -32,7 +33,7 @@ fn job(kind: u8, parameter: i32, accesses: &[(u8, u8)]) -> Job {
         kind,
         parameter,
         arity: accesses.len() as u8,
-        accesses: [(0, 0); 4],
+        ..Job::default()
     };
     job.accesses[..accesses.len()].copy_from_slice(accesses);
     job
@@ -80,7 +81,7 @@ fn answers(record: &Record, job: usize) -> [u8; 5] {
 /// The bytes of a record by the header's structs as a C compiler lays them out;
 /// the bytes between the fields are 170.
 fn bytes_of(record: &Record) -> Vec<u8> {
-    let mut bytes = vec![170; 10376];
+    let mut bytes = vec![170; 11912];
     let mut put = |at: usize, part: &[u8]| bytes[at..at + part.len()].copy_from_slice(part);
     put(
         0,
@@ -95,16 +96,16 @@ fn bytes_of(record: &Record) -> Vec<u8> {
         put(4 + 4 * cell, &height.to_le_bytes());
     }
     for (number, job) in record.jobs.iter().enumerate() {
-        let at = 260 + 20 * number;
-        put(at, &[job.kind]);
-        put(at + 4, &job.parameter.to_le_bytes());
-        put(at + 8, &[job.arity]);
+        let at = 260 + 32 * number;
+        put(at, &[job.kind, job.arity]);
+        put(at + 12, &job.parameter.to_le_bytes());
         for (place, access) in job.accesses.iter().enumerate() {
-            put(at + 9 + 2 * place, &[access.0, access.1]);
+            put(at + 2 + 2 * place, &[access.0, access.1]);
+            put(at + 16 + 4 * place, &job.predicted[place].to_le_bytes());
         }
     }
     for (number, run) in record.runs.iter().enumerate() {
-        let at = 2824 + 56 * number;
+        let at = 4360 + 56 * number;
         for place in 0..4 {
             put(at + 4 * place, &run.handed[place].to_le_bytes());
             put(at + 16 + 4 * place, &run.reported[place].to_le_bytes());
@@ -114,38 +115,40 @@ fn bytes_of(record: &Record) -> Vec<u8> {
         put(at + 40, &(run.bypassed as u64).to_le_bytes());
         put(at + 48, &((run.bypassed >> 64) as u64).to_le_bytes());
     }
-    put(9992, &record.committed);
-    put(10120, &record.running);
-    put(10248, &record.phase);
+    put(11528, &record.committed);
+    put(11656, &record.running);
+    put(11784, &record.phase);
     bytes
 }
 
 #[test]
 fn bytes_there_and_back() {
-    assert_eq!(Record::SIZE, 10376);
+    assert_eq!(Record::SIZE, 11912);
     let mut dice = Dice(77);
     let bytes: Vec<u8> = (0..Record::SIZE).map(|_| dice.below(256) as u8).collect();
     let record = Record::from_bytes(&bytes);
     assert_eq!(record.jobs.len(), 128);
     assert_eq!(record.runs.len(), 128);
-    assert_eq!(record.phase[127], bytes[10375]);
-    assert_eq!(record.runs[127].bypassed >> 120, u128::from(bytes[9991]));
-    assert_eq!(record.jobs[127].accesses[3].1, bytes[260 + 127 * 20 + 16]);
+    assert_eq!(record.phase[127], bytes[11911]);
+    assert_eq!(record.runs[127].bypassed >> 120, u128::from(bytes[11527]));
+    assert_eq!(record.jobs[127].accesses[3].1, bytes[260 + 127 * 32 + 9]);
+    let last = record.jobs[127].predicted[3].to_le_bytes();
+    assert_eq!(last, bytes[4352..4356]);
     let back = bytes_of(&record);
     assert_eq!(Record::from_bytes(&back), record);
-    // Between fields lie 6 bytes of a job, 3 of a run, and 4 before the runs.
+    // Between fields lie 2 bytes of a job, 3 of a run, and 4 before the runs.
     let between = back
         .iter()
         .zip(&bytes)
         .filter(|(one, other)| one != other)
         .count();
-    assert!(between <= 128 * (6 + 3) + 4 && between > 128 * 8);
+    assert!(between <= 128 * (2 + 3) + 4 && between > 128 * 4);
 }
 
 #[test]
 #[should_panic]
 fn another_length() {
-    Record::from_bytes(&[0; 10375]);
+    Record::from_bytes(&[0; 11911]);
 }
 
 // ---------------------------------------------------------------------------
@@ -166,12 +169,12 @@ struct Pair {
 
 /// What came up of jobs with four accesses: accepted steps by their number;
 /// reports with mark 1 where the only maybe-write is the fourth access; heights
-/// that a write and a maybe-write in the fourth place changed.
+/// that a write, a maybe-write and a predicted write in the fourth place changed.
 #[derive(Default, Debug)]
 struct Four {
     accepted: [u64; 5],
     marked: u64,
-    written: [u64; 2],
+    written: [u64; 3],
 }
 
 impl Four {
@@ -211,7 +214,7 @@ impl Four {
 }
 
 /// A job that is mostly sound, often of kind 0 and four accesses. Places not in
-/// use have anything in them.
+/// use have anything in them, and predictions are any.
 fn any_job(dice: &mut Dice, cells: u64) -> Job {
     let kind = match dice.below(40) {
         0 => 7,
@@ -240,13 +243,13 @@ fn any_job(dice: &mut Dice, cells: u64) -> Job {
         if dice.one_in(60) {
             cell = cells;
         }
-        let mode = if dice.one_in(60) { 3 } else { dice.below(3) };
+        let mode = if dice.one_in(60) { 4 } else { dice.below(4) };
         accesses[place] = (cell as u8, mode as u8);
     }
     // The fourth access is often the only maybe-write.
     if modes.is_none() && arity == 4 && dice.one_in(3) {
-        for access in &mut accesses[..3] {
-            access.1 = access.1.min(WRITE);
+        for access in accesses[..3].iter_mut().filter(|access| access.1 == MAYBE) {
+            access.1 = WRITE;
         }
         accesses[3].1 = MAYBE;
     }
@@ -257,21 +260,23 @@ fn any_job(dice: &mut Dice, cells: u64) -> Job {
     }
     Job {
         kind,
-        parameter: dice.below(60) as i32 - 30,
         arity: arity as u8,
         accesses,
+        parameter: dice.below(60) as i32 - 30,
+        predicted: [0; 4].map(|_: i32| dice.below(60) as i32 - 30),
     }
 }
 
 fn accesses_of(job: &Job) -> Vec<Access> {
-    let place = |place: usize| job.accesses.get(place).copied().unwrap_or((0, 0));
-    let access = |(cell, mode): (u8, u8)| Access {
-        cell: u32::from(cell),
-        mode: u32::from(mode),
+    let access = |place: usize| {
+        let (cell, mode) = job.accesses.get(place).copied().unwrap_or((0, 0));
+        Access {
+            cell: u32::from(cell),
+            mode: u32::from(mode),
+            predicted: job.predicted.get(place).copied().unwrap_or(0),
+        }
     };
-    (0..usize::from(job.arity))
-        .map(|at| access(place(at)))
-        .collect()
+    (0..usize::from(job.arity)).map(access).collect()
 }
 
 impl Pair {
@@ -356,7 +361,7 @@ impl Pair {
                 let handed = self.runs[job].0;
                 let inserted = self.record.jobs[job];
                 for (place, access) in accesses_of(&inserted).iter().enumerate() {
-                    let written = access.mode == 1 || (access.mode == 2 && mark == 1);
+                    let written = matches!((access.mode, mark), (1 | 3, _) | (2, 1));
                     self.runs[job].1[place] = if written {
                         values[place]
                     } else {
@@ -773,14 +778,47 @@ fn held_jobs_4_to_6() {
     // 6
     limit(
         &held,
-        |r| r.jobs[0].accesses[3].1 = 2,
         |r| r.jobs[0].accesses[3].1 = 3,
+        |r| r.jobs[0].accesses[3].1 = 4,
     );
     limit(
         &held,
-        |r| r.jobs[0].accesses[0].1 = 2,
+        |r| r.jobs[0].accesses[0].1 = 3,
         |r| r.jobs[0].accesses[0].1 = 255,
     );
+}
+
+/// R91, R106, R108: mode 3 in each place of kind 0, and in none of another kind.
+/// R92: predictions may be any numbers, with any mode and in places not in use.
+#[test]
+fn held_predictions() {
+    let mut held = all_kinds();
+    for place in 0..4 {
+        limit(
+            &held,
+            |r| r.jobs[0].accesses[place].1 = PREDICTED,
+            |r| r.jobs[0].accesses[place].1 = 4,
+        );
+    }
+    for (number, kind) in held.clone().jobs[..7].iter().enumerate().skip(1) {
+        for place in 0..usize::from(kind.arity) {
+            limit(
+                &held,
+                |r| (r.jobs[number].kind, r.jobs[number].accesses[place].1) = (0, PREDICTED),
+                |r| r.jobs[number].accesses[place].1 = PREDICTED,
+            );
+        }
+        // Not in use it is not looked at.
+        held.jobs[number].accesses[3].1 = PREDICTED;
+        assert!(held.in_form());
+    }
+    for any in [0, 1, -1, i32::MIN, i32::MAX] {
+        for job in &mut held.jobs {
+            job.predicted = [any, any.wrapping_mul(3), !any, any];
+        }
+        assert!(held.in_form());
+        assert_eq!(held.ask_job(6).job, held.jobs[6]);
+    }
 }
 
 #[test]
@@ -875,9 +913,10 @@ fn scribbled(dice: &mut Dice, record: &Record) -> Record {
         let accesses = [0; 4].map(|_| (dice.below(256) as u8, dice.below(256) as u8));
         other.jobs[job] = Job {
             kind: 200,
-            parameter: 7,
             arity: 99,
             accesses,
+            parameter: 7,
+            predicted: [8, -8, i32::MIN, i32::MAX],
         };
         let (sources, bypassed) = ([255; 4], u128::MAX);
         other.runs[job] = Run {
@@ -915,11 +954,49 @@ fn places_not_in_use() {
     }
 }
 
+/// R92: predictions of modes other than 3, and in places not in use, are looked at by
+/// no call but asking the job, which shows them.
+#[test]
+fn predictions_that_mean_nothing() {
+    let mut dice = Dice(46);
+    let mut changed = [0; 2];
+    for list in 0..200 {
+        let record = one_list(&mut dice, 4, 8, list, 1000).record;
+        let mut other = record.clone();
+        for held in &mut other.jobs[..usize::from(record.job_count)] {
+            for place in 0..4 {
+                let unused = place >= usize::from(held.arity);
+                if unused || held.accesses[place].1 != PREDICTED {
+                    held.predicted[place] = dice.below(60) as i32 - 30;
+                    changed[usize::from(unused)] += 1;
+                }
+            }
+        }
+        assert_eq!(other.choose(), record.choose());
+        for job in 0..usize::from(record.job_count) {
+            let asked = JobAnswer {
+                job: other.jobs[job],
+                ..record.ask_job(job)
+            };
+            assert_eq!(other.ask_job(job), asked);
+            for number in 0..5 {
+                let (mut one, mut two) = (record.clone(), other.clone());
+                let answer = one.step(number, job, [5; 4], 0);
+                assert_eq!(two.step(number, job, [5; 4], 0), answer);
+                two.jobs.clone_from(&record.jobs);
+                assert_eq!(two, one);
+            }
+        }
+    }
+    assert!(changed.iter().all(|&times| times > 500), "{changed:?}");
+}
+
 /// An insert blanks the place that it takes, and nothing else, sealed or not.
 #[test]
 fn insert_into_a_place_not_blank() {
     let new = Job {
         accesses: [(1, WRITE), (9, 9), (0, 2), (1, 1)],
+        predicted: [1, 2, 3, 4],
         ..job(2, 4, &[(0, WRITE)])
     };
     for sealed in [0, 1] {
@@ -950,14 +1027,14 @@ fn order_of_refusals() {
     assert_eq!(open.step(5, 9, [0; 4], 9), (21, [0; 4]));
     assert_eq!(open.step(255, 0, [0; 4], 0), (21, [0; 4]));
     assert_eq!(open.step(0, 9, [0; 4], 9), (10, [0; 4]));
-    assert_eq!(open.insert(job(9, 0, &[(1, 3), (1, 3)])), 5);
-    assert_eq!(open.insert(job(9, 0, &[(0, 3), (0, 3)])), 6);
-    assert_eq!(open.insert(job(9, 0, &[(0, 2), (0, 2)])), 7);
-    assert_eq!(open.insert(job(9, 0, &[(0, 2)])), 8);
+    assert_eq!(open.insert(job(9, 0, &[(1, 4), (1, 4)])), 5);
+    assert_eq!(open.insert(job(9, 0, &[(0, 4), (0, 4)])), 6);
+    assert_eq!(open.insert(job(9, 0, &[(0, 3), (0, 3)])), 7);
+    assert_eq!(open.insert(job(9, 0, &[(0, 3)])), 8);
     assert_eq!(
         open.insert(Job {
             arity: 5,
-            ..job(9, 0, &[(1, 3); 4])
+            ..job(9, 0, &[(1, 4); 4])
         }),
         4
     );
@@ -1439,7 +1516,7 @@ fn others_kept(before: &Record, after: &Record, job: usize) {
 fn all_written(after: &Record, job: usize, value: i32, mark: u8) {
     let held = after.jobs[job];
     for &(cell, mode) in &held.accesses[..usize::from(held.arity)] {
-        if mode == WRITE || (mode == MAYBE && mark == 1) {
+        if mode == WRITE || mode == PREDICTED || (mode == MAYBE && mark == 1) {
             assert_eq!(after.cells[usize::from(cell)], value);
         }
     }
@@ -1452,18 +1529,18 @@ fn damage(dice: &mut Dice, record: &Record) -> Record {
         let job = dice.below(held);
         let at = match dice.below(8) {
             0 => dice.below(4),
-            1 => 260 + 20 * job + dice.below(20),
-            2 => 2824 + 56 * job + 32 + dice.below(24),
-            3 => 2824 + 56 * job + dice.below(56),
-            4 => 9992 + job,
-            5 => 10120 + job,
-            6 => 10248 + job,
+            1 => 260 + 32 * job + dice.below(32),
+            2 => 4360 + 56 * job + 32 + dice.below(24),
+            3 => 4360 + 56 * job + dice.below(56),
+            4 => 11528 + job,
+            5 => 11656 + job,
+            6 => 11784 + job,
             _ => dice.below(Record::SIZE as u64),
         };
         let small = if dice.one_in(3) {
             dice.below(256)
         } else {
-            dice.below(4)
+            dice.below(5)
         };
         bytes[at as usize] = if dice.one_in(3) {
             bytes[at as usize] ^ 1 << dice.below(8)

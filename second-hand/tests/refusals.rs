@@ -1,10 +1,10 @@
 //! R101 to R122: each refusal once or more, and the order among them (R100).
 
-use second_hand::engine::{Access, Batch, Report, MAYBE, READ, WRITE};
+use second_hand::engine::{Access, Batch, Report, MAYBE, PREDICTED, READ, WRITE};
 use second_hand::{answer, answer_plan, kinds, ANSWER_PLACES};
 
 fn on(cell: u32, mode: u32) -> Access {
-    Access { cell, mode }
+    Access::to(cell, mode)
 }
 
 fn report(value: i32, mark: u32) -> Report {
@@ -67,11 +67,13 @@ fn refusals_3_to_8_of_inserting() {
     for mut batch in [open, empty, batch(1)] {
         refused(&mut batch, 4, |b| b.insert(9, 0, &[]));
         refused(&mut batch, 4, |b| b.insert(0, 0, &[on(9, 9); 5]));
-        refused(&mut batch, 5, |b| b.insert(9, 0, &[on(1, 3), on(2, 0), on(2, 0)]));
-        refused(&mut batch, 6, |b| b.insert(9, 0, &[on(1, 3), on(1, 0)]));
+        refused(&mut batch, 5, |b| b.insert(9, 0, &[on(1, 4), on(2, 0), on(2, 0)]));
+        refused(&mut batch, 6, |b| b.insert(9, 0, &[on(1, 4), on(1, 0)]));
+        refused(&mut batch, 7, |b| b.insert(9, 0, &[on(1, PREDICTED), on(1, 0)]));
         refused(&mut batch, 7, |b| b.insert(9, 0, &[on(1, 0), on(1, 0)]));
         refused(&mut batch, 8, |b| b.insert(7, 0, &[on(1, 0)]));
         refused(&mut batch, 8, |b| b.insert(1, 0, &[on(1, READ)]));
+        refused(&mut batch, 8, |b| b.insert(1, 0, &[on(1, PREDICTED)]));
         refused(&mut batch, 8, |b| b.insert(1, 0, &[on(1, WRITE), on(0, READ)]));
         refused(&mut batch, 8, |b| b.insert(3, 0, &[on(1, MAYBE)]));
         while batch.job_count() < 128 {

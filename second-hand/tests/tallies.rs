@@ -23,6 +23,7 @@ fn job(kind: u8, parameter: i32, cell: u8, mode: u8) -> Job {
         parameter,
         arity: 1,
         accesses,
+        ..Job::default()
     }
 }
 
@@ -227,19 +228,20 @@ fn edges_of_a_job() {
         edge(&full, |r| &mut r.jobs[j].arity, 1, due, 0);
         edge(&full, |r| &mut r.jobs[j].arity, 1, due, 5);
         edge(&full, |r| &mut r.jobs[j].accesses[0].0, 1, due, 2);
-        edge(&full, |r| &mut r.jobs[j].accesses[0].1, 2, due, 3);
+        edge(&full, |r| &mut r.jobs[j].accesses[0].1, 3, due, 4);
         edge(&full, |r| &mut r.jobs[j].arity, 1, due, 2);
         edge(&full, |r| &mut r.jobs[j].kind, 0, due, 7);
     }
 }
 
-/// R92: parameters, heights and values may be any numbers.
+/// R92: parameters, predictions, heights and values may be any numbers.
 #[test]
 fn any_numbers_that_form_does_not_name() {
     let mut record = readers(3);
     record.cells = [i32::MIN; 64];
     for place in 0..3 {
         record.jobs[place].parameter = i32::MAX;
+        record.jobs[place].predicted = [i32::MIN, i32::MAX, -1, 0];
         record.jobs[place].accesses[3] = (255, 255);
         record.runs[place].handed = [i32::MIN; 4];
         record.runs[place].reported = [i32::MAX; 4];

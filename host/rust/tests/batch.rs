@@ -390,8 +390,9 @@ fn refusals_of_the_planner() {
     assert_eq!(batch.insert(Job::outside(0, &five)), Err(Refusal::ACCESS_COUNT));
     assert_eq!(batch.insert(Job::set(64, 1)), Err(Refusal::NO_SUCH_CELL));
     let mut modeless = Job::outside(0, &[(0, Mode::Read)]);
-    modeless.accesses[0].mode = 3;
+    modeless.accesses[0].mode = 4;
     assert_eq!(batch.insert(modeless), Err(Refusal::NO_SUCH_MODE));
+    assert_eq!(batch.insert(Job::new(2, 20, &[(0, Mode::PredictedWrite)])), Err(Refusal::WRONG_KIND));
     assert_eq!(batch.insert(Job::pair(3, 3)), Err(Refusal::CELL_TWICE));
     assert_eq!(batch.insert(Job::new(7, 0, &[(0, Mode::Read)])), Err(Refusal::WRONG_KIND));
     for _ in 0..128 {

@@ -12,7 +12,7 @@ use met::{add, print};
 use sets::Sets;
 use setting::setting;
 use sorghemi::raw::{sorghemi_step_by_value, JobAnswer, JobSet, Run, TallyAnswer};
-use sorghemi::{Batch, Job, Mode, Record, Report, Step};
+use sorghemi::{Access, Batch, Job, Mode, Record, Report, Step};
 use std::collections::BTreeMap;
 use std::mem::{offset_of, size_of};
 use theirs::{read_tally, Both};
@@ -56,8 +56,14 @@ impl Random {
         Report { values: [(); 4].map(|_| self.height()), wrote }
     }
 
-    /// A job on the cells that inserting mostly takes: of kind 0 with any accesses, or of another kind with its own modes.
+    /// A job on the cells that inserting mostly takes, with any predictions.
     fn job(&mut self, cells: usize) -> Job {
+        let job = self.job_without(cells);
+        Job { predicted: [(); 4].map(|_| self.height()), ..job }
+    }
+
+    /// Of kind 0 with any accesses, or of another kind with its own modes.
+    fn job_without(&mut self, cells: usize) -> Job {
         let mut left: Vec<u8> = (0..cells as u8).collect();
         let mut cell = || if left.is_empty() { 0 } else { left.swap_remove(self.below(left.len())) };
         let [a, b, c, d] = [(); 4].map(|()| cell());
@@ -76,10 +82,10 @@ impl Random {
         }
     }
 
-    /// Accesses of any mode, but the fourth is mostly a write or a maybe-write, and often the only maybe-write.
+    /// Accesses of any mode, but the fourth is mostly no read, and often the only maybe-write.
     fn accesses(&mut self, cells: [u8; 4]) -> [(u8, Mode); 4] {
-        let modes = [Mode::Read, Mode::Write, Mode::MaybeWrite];
-        let lists = if self.one_in(2) { [3, 3, 3, 3] } else { [2, 2, 2, 3] };
+        let modes = [Mode::Read, Mode::Write, Mode::MaybeWrite, Mode::PredictedWrite];
+        let lists = [[3, 3, 3, 3], [2, 2, 2, 3], [4, 4, 4, 4]][self.below(3)];
         let mut place = 0;
         cells.map(|cell| {
             let mode = modes[self.below(lists[place])];
@@ -135,10 +141,13 @@ fn worked_record(heights: &[i32], jobs: usize, random: &mut Random) -> Record {
 /// A byte of the record at random: of any place, or of a place in use, where it matters.
 fn place(record: &Record, random: &mut Random) -> usize {
     let job = random.below(record.job_count.max(1) as usize);
-    match random.below(8) {
+    let (held, arity) = (offset_of!(Record, jobs) + job * size_of::<Job>(), record.jobs[job].arity.clamp(1, 4));
+    match random.below(11) {
         0 | 1 => random.below(Record::SIZE),
         2 => random.below(offset_of!(Record, cells)),
-        3 => offset_of!(Record, jobs) + job * size_of::<Job>() + random.below(size_of::<Job>()),
+        3 => held + random.below(size_of::<Job>()),
+        8 | 9 => held + offset_of!(Job, accesses) + random.below(arity.into()) * size_of::<Access>() + offset_of!(Access, mode),
+        10 => held + offset_of!(Job, predicted) + random.below(16),
         4 => offset_of!(Record, runs) + job * size_of::<Run>() + random.below(size_of::<Run>()),
         5 => offset_of!(Record, committed) + job,
         6 => offset_of!(Record, running) + job,
@@ -152,7 +161,7 @@ fn damaged(record: &Record, random: &mut Random, place: fn(&Record, &mut Random)
     for _ in 0..1 + random.below(3) {
         let byte = &mut bytes[place(record, random)];
         *byte = match random.below(3) {
-            0 => random.below(4) as u8,
+            0 => random.below(5) as u8,
             1 => random.below(256) as u8,
             _ => *byte ^ (1 << random.below(8)),
         };
@@ -231,7 +240,7 @@ fn job_for(number: u8, record: &Record, random: &mut Random) -> usize {
 const STEPS: [&str; 6] = ["step 0", "step 1", "step 2", "step 3", "step 4", "step 5"];
 
 /// What may be met of jobs with four accesses. Each has to come up.
-const FOUR: [&str; 9] = [
+const FOUR: [&str; 11] = [
     "step 0 accepted",
     "step 1 accepted",
     "step 2 accepted",
@@ -241,7 +250,44 @@ const FOUR: [&str; 9] = [
     "a write in the fourth place changed its cell",
     "a maybe-write in the fourth place changed its cell",
     "the value for the fourth place was taken from a guess",
+    "a predicted write in the fourth place changed its cell",
+    "the prediction for the fourth place was handed out",
 ];
+
+/// What may be met of modes and predictions in records that were written into. Each has to come up.
+const PREDICTED: [&str; 6] = [
+    "in form, another prediction with mode 3",
+    "in form, another prediction with another mode, or in a place not in use",
+    "in form, a mode that has become 3",
+    "out of form for a mode alone that has become 3, with a kind of 1 to 6",
+    "out of form for a mode alone that has become 4",
+    "out of form for a mode alone that has become more than 4",
+];
+
+/// Which of PREDICTED come up where the first record has become the second, which is in form or not.
+fn predicted_met(valid: &Record, record: &Record, in_form: bool) -> [bool; PREDICTED.len()] {
+    let mut met = [false; PREDICTED.len()];
+    for job in 0..valid.job_count as usize {
+        let (was, is) = (&valid.jobs[job], &record.jobs[job]);
+        for place in 0..4 {
+            let (mode, old, in_use) = (is.accesses[place].mode, was.accesses[place].mode, place < was.arity as usize);
+            if is.predicted[place] != was.predicted[place] {
+                met[if in_use && mode == 3 { 0 } else { 1 }] |= in_form;
+            }
+            if !in_use || mode == old {
+                continue;
+            }
+            let mut back = *record;
+            back.jobs[job].accesses[place].mode = old;
+            let alone = !in_form && Both::of(&back).ask_batch().refusal == 0;
+            met[2] |= in_form && mode == 3;
+            met[3] |= alone && mode == 3;
+            met[4] |= alone && mode == 4;
+            met[5] |= alone && mode > 4;
+        }
+    }
+    met
+}
 
 /// How a guess is judged, by R45's numbers. Each has to come up of jobs that are not settled, and of others the first alone.
 const JUDGED: [&str; 4] = ["no guess to judge", "not yet to be judged", "stands", "fallen"];
@@ -283,12 +329,13 @@ fn handed_met(answer: &JobAnswer, present: [i32; 4]) -> [bool; HANDED.len()] {
 /// What may be met of the tally of a record that somebody wrote into, and that is still in form. Each has to come up.
 const TALLIES: [&str; 3] = ["out of balance", "in balance, a guess started", "in balance, none started"];
 
-/// How often each entry gave each answer, what was met of jobs with four accesses, how guesses were judged: of jobs that are
-/// not settled, and of settled ones; what they had been handed; and what was met of tallies.
+/// How often each entry gave each answer, what was met of jobs with four accesses and of predictions, how guesses were judged:
+/// of jobs that are not settled, and of settled ones; what they had been handed; and what was met of tallies.
 #[derive(Default)]
 struct Met {
     answers: BTreeMap<(&'static str, u8), u64>,
     four: [u64; FOUR.len()],
+    predicted: [u64; PREDICTED.len()],
     judged: [[u64; 2]; JUDGED.len()],
     handed: [u64; HANDED.len()],
     tallies: [u64; TALLIES.len()],
@@ -352,6 +399,8 @@ impl Met {
             (changed && accesses[3].mode == Mode::Write as u8, 6),
             (changed && maybe[3], 7),
             (number == 1 && after.runs[job].sources[3] != 0, 8),
+            (changed && accesses[3].mode == Mode::PredictedWrite as u8, 9),
+            (number == 1 && accesses[3].mode == Mode::PredictedWrite as u8, 10),
         ];
         for &(_, what) in met.iter().filter(|(did, _)| *did) {
             self.four[what] += 1;
@@ -394,6 +443,8 @@ impl Met {
         self.print_answers();
         println!("Of jobs with four accesses:");
         print(&FOUR, &self.four);
+        println!("Records that were written into:");
+        print(&PREDICTED, &self.predicted);
         println!("Guesses of jobs not settled, and of settled ones:");
         for (what, times) in JUDGED.iter().zip(self.judged) {
             println!("  {what}: {} and {}", times[0], times[1]);
@@ -467,6 +518,7 @@ fn damaged_records_are_refused_or_answered_soundly() {
         }
         let record = damaged(&valid, &mut random, place);
         let answer = try_every_entry(&record, &mut random, &mut met);
+        add(&mut met.predicted, predicted_met(&valid, &record, answer.refusal == 0));
         met.made_up(answer);
     }
     println!(
@@ -479,6 +531,7 @@ fn damaged_records_are_refused_or_answered_soundly() {
     }
     met.inserts_came_up();
     assert!(met.four.iter().all(|&times| times > 0), "something never came up with four accesses: {:?}", met.four);
+    assert!(met.predicted.iter().all(|&times| times > 0), "no mode or prediction was so: {:?}", met.predicted);
     met.judged_each_way();
     assert!(met.tallies.iter().all(|&times| times > 0), "no tally was so: {:?}", met.tallies);
 }

@@ -129,7 +129,7 @@ impl Morning {
 }
 
 /// What may be met of an insert. Each has to come up.
-const INSERTED: [&str; 16] = [
+const INSERTED: [&str; 17] = [
     "accepted before sealing",
     "accepted after sealing",
     "accepted into a sealed batch without jobs",
@@ -140,6 +140,7 @@ const INSERTED: [&str; 16] = [
     "accepted with a guess stored, its job not settled",
     "accepted with a fallen guess",
     "accepted after sealing as the 128th job",
+    "accepted after sealing with a predicted write",
     "refused after sealing with 3",
     "refused after sealing with 4",
     "refused after sealing with 5",
@@ -149,7 +150,7 @@ const INSERTED: [&str; 16] = [
 ];
 
 /// Which of INSERTED come up, by how the batch stood before, and how often it had been finished and gained a job.
-fn insert_met(before: &record::Record, gained: u32, refusal: u8) -> [bool; INSERTED.len()] {
+fn insert_met(before: &record::Record, job: &record::Job, gained: u32, refusal: u8) -> [bool; INSERTED.len()] {
     let (sealed, jobs, finished) = (before.sealed == 1, before.job_count.into(), before.ask_batch().finished);
     let late = refusal == 0 && sealed;
     let some = |is: &dyn Fn(usize) -> bool| late && (0..jobs).any(is);
@@ -165,6 +166,7 @@ fn insert_met(before: &record::Record, gained: u32, refusal: u8) -> [bool; INSER
         some(&|job| before.phase[job] == 2 && before.committed[job] == 0),
         some(&|job| before.ask_job(job).validity == 3),
         late && jobs == 127,
+        late && job.predicts(),
         refused(3),
         refused(4),
         refused(5),
@@ -175,7 +177,7 @@ fn insert_met(before: &record::Record, gained: u32, refusal: u8) -> [bool; INSER
 }
 
 /// What may be met of a job that came in after the seal. Each has to come up.
-const ADDED: [&str; 10] = [
+const ADDED: [&str; 12] = [
     "settled by its own run",
     "settled by its guess",
     "settled by its own run with mark 1",
@@ -185,6 +187,8 @@ const ADDED: [&str; 10] = [
     "a guess that looked past a job",
     "a guess that looked past another such job",
     "a guess thrown away",
+    "a guess handed a prediction",
+    "a guess handed a prediction kept",
     "four steps made",
 ];
 
@@ -203,6 +207,8 @@ fn step_met(ledger: &Ledger, after: &record::Record, number: u8, job: usize) -> 
         past(&|_| true),
         past(&|other| jobs[other].added),
         number == 0 && after.phase[job] == 3,
+        number == 1 && jobs[job].job.predicts(),
+        number == 4 && jobs[job].job.predicts(),
         jobs[job].steps == 4,
     ]
 }
@@ -223,7 +229,7 @@ impl Met {
         let (cells, jobs) = if look { (morning.cells(), morning.jobs()) } else { Default::default() };
         let (before, finished, gained) = (morning.record().clone(), morning.finished(), morning.gained);
         let (refusal, _) = morning.make(&Call::Insert(*job));
-        add(&mut self.inserted, insert_met(&before, gained, refusal));
+        add(&mut self.inserted, insert_met(&before, job, gained, refusal));
         if look && refusal == 0 {
             morning.has_gained(job, &cells, &jobs);
         }

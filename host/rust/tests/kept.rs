@@ -1,9 +1,10 @@
 //! Guesses that are kept for the heights that they were handed (R43 to R45, R115), none lost to that rule (R185), and judgements
 //! that stay (R186). Batches are worked by random lists of calls (`second_hand::lists`) in three hands at once, most of them with
-//! few heights, so that reports often give what was there. After every call (with 20 jobs or more after one in twenty) each guess
-//! is held against both of the second hand's engines and the ledger (`second_hand::ledger`), and the former rule is worked out
-//! beside it (`second_hand::former`). BATCHES=COUNT sets how many lists, SEED=NUMBER which; it prints what was met, and how many
-//! guesses the former rule would have kept (`cargo test --test kept -- --nocapture`).
+//! few heights, so that reports often give what was there, and some with predictions. After every call (with 20 jobs or more
+//! after one in twenty) each guess is held against both of the second hand's engines and the ledger (`second_hand::ledger`), and
+//! the former rule is worked out beside it (`second_hand::former`), which is meant of guesses handed no prediction. BATCHES=COUNT
+//! sets how many lists, SEED=NUMBER which; it prints what was met, and how many guesses the former rule would have kept
+//! (`cargo test --test kept -- --nocapture`).
 
 mod hands;
 mod met;
@@ -55,7 +56,8 @@ impl Met {
                 self.stayed += 1;
             }
             let line = &ledger.jobs[job];
-            if line.guess.is_some() && line.counted.is_none() && ledger.is_ready(job) && !falls[job].at_all() {
+            let open = line.guess.is_some() && line.counted.is_none() && ledger.is_ready(job);
+            if open && !line.job.predicts() && !falls[job].at_all() {
                 assert_eq!(validity, 2, "R185: job {job} of {ledger:?}");
                 self.applied += 1;
             }
@@ -105,14 +107,18 @@ fn sum<const COUNT: usize>(sums: &mut [u64; COUNT], more: [u64; COUNT]) {
     sums.iter_mut().zip(more).for_each(|(sum, more)| *sum += more);
 }
 
-/// Every eighth list is any.
+/// Of eight lists one is any, and one has predictions.
 #[test]
 fn batches() {
     let (count, seed) = (setting("BATCHES", 800), setting("SEED", 1));
     let mut dice = Dice::new(seed, 185);
     let mut met = Met::default();
     for list in 0..count {
-        let manner = if list % 8 == 0 { Manner::any(&mut dice) } else { Manner::few_heights(&mut dice) };
+        let manner = match list % 8 {
+            0 => Manner::any(&mut dice),
+            1 => Manner::predicting(&mut dice),
+            _ => Manner::few_heights(&mut dice),
+        };
         met.work(&mut dice, &manner);
     }
     println!("{count} batches of seed {seed}: every answer the second hand's twice over, and the ledger's.");

@@ -40,7 +40,7 @@ impl Morning {
     fn insert(&mut self, used: &[(u8, u8)]) {
         let mut accesses = [(0, 0); 4];
         accesses[..used.len()].copy_from_slice(used);
-        self.accept(Call::Insert(record::Job { kind: 0, parameter: 0, arity: used.len() as u8, accesses }));
+        self.accept(Call::Insert(record::Job { arity: used.len() as u8, accesses, ..record::Job::default() }));
     }
 }
 
@@ -69,10 +69,12 @@ fn state(record: &record::Record, job: usize) -> usize {
 }
 
 /// What a guess may have taken. Each has to come up.
-const TOOK: [&str; 3] = [
+const TOOK: [&str; 5] = [
     "looked past none, for it only took from a writer",
     "looked past none, for it only waits for readers",
     "looked past some and took from a writer too",
+    "looked past none and took from none, for it was handed a prediction",
+    "looked past some, and was handed a prediction",
 ];
 
 /// How many guesses were asked for, of jobs that there are and of others, and what was met.
@@ -110,8 +112,10 @@ impl Met {
         self.states[state(morning.record(), job)] += 1;
         if let Some(guess) = &morning.ledger.jobs[job].guess {
             let (none, took) = (guess.looked_past.is_empty(), !guess.taken_from.is_empty());
+            let predicts = morning.ledger.jobs[job].job.predicts();
             self.sets.count(&guess.looked_past, &morning.ledger.open_of(guess));
-            add(&mut self.took, [none && took, none && !took, !none && took]);
+            let alone = none && !took;
+            add(&mut self.took, [none && took, alone && !predicts, !none && took, alone && predicts, !none && predicts]);
         }
     }
 

@@ -34,15 +34,16 @@ const ASKED: [&str; 12] = [
     "a guess thrown away, the job settled",
 ];
 
-/// What may have become of a guess. Each has to come up with each kind.
+/// What may have become of a guess. Each has to come up with each kind, and with jobs that predict.
 const BECAME: [&str; 4] = ["out", "stored, the job not settled", "kept", "thrown away"];
 
-/// How many tallies were asked for, what was met of ASKED, and by kind of BECAME.
+/// How many tallies were asked for, what was met of ASKED, and of BECAME by kind and of jobs that predict.
 #[derive(Default)]
 struct Asked {
     times: u64,
     met: [u64; ASKED.len()],
     became: [[u64; BECAME.len()]; 7],
+    predicted: [u64; BECAME.len()],
 }
 
 impl Asked {
@@ -72,6 +73,7 @@ impl Asked {
             };
             here[became] += 1;
             self.became[record.jobs[job].kind as usize][became] += 1;
+            self.predicted[became] += record.jobs[job].predicts() as u64;
             met[8] |= became == 0 && record.ask_job(job).validity == 3;
             met[9] |= became == 1 && record.ask_job(job).validity == 3;
             met[10] |= became == 3 && running == 1;
@@ -120,8 +122,10 @@ fn batches() {
     print(&ASKED, &asked.met);
     println!("  guesses by kind, {}:", BECAME.join("; "));
     asked.became.iter().enumerate().for_each(|(kind, times)| println!("    kind {kind}: {times:?}"));
+    println!("    handed a prediction: {:?}", asked.predicted);
     assert!(asked.met.iter().all(|&times| times > 0), "something never came up: {:?}", asked.met);
     assert!(asked.became.iter().flatten().all(|&times| times > 0), "no guess became that: {:?}", asked.became);
+    assert!(asked.predicted.iter().all(|&times| times > 0), "no guess with a prediction became that: {:?}", asked.predicted);
 }
 
 /// The most that a number of a tally can be (R123).

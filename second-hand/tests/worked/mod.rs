@@ -5,6 +5,7 @@ use second_hand::ledger::Ledger;
 use second_hand::lists::{Answer, Call};
 use second_hand::record::Record;
 
+#[derive(Clone)]
 pub struct Worked {
     pub record: Record,
     pub batch: Batch,

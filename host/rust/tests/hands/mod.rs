@@ -21,9 +21,9 @@ impl Hands {
     /// Makes the call in all hands; they answer the same.
     pub fn make(&mut self, call: &Call) -> Answer {
         let answer = match *call {
-            Call::Insert(record::Job { kind, parameter, arity, accesses }) => {
+            Call::Insert(record::Job { kind, arity, accesses, parameter, predicted }) => {
                 let accesses = accesses.map(|(cell, mode)| Access { cell, mode });
-                (self.both.insert(Job { kind, parameter, arity, accesses }), [0; 4])
+                (self.both.insert(Job { kind, arity, accesses, parameter, predicted }), [0; 4])
             }
             Call::Seal(guessing) => (self.both.seal(guessing), [0; 4]),
             Call::Step { number, job, values, mark } => self.both.step(number, job, Report { values, wrote: mark }),

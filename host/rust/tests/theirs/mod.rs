@@ -16,12 +16,13 @@ fn read(record: &Record) -> record::Record {
     record::Record::from_bytes(&record.to_bytes())
 }
 
-fn read_job(job: &Job) -> record::Job {
+pub fn read_job(job: &Job) -> record::Job {
     record::Job {
         kind: job.kind,
-        parameter: job.parameter,
         arity: job.arity,
         accesses: job.accesses.map(|access| (access.cell, access.mode)),
+        parameter: job.parameter,
+        predicted: job.predicted,
     }
 }
 
