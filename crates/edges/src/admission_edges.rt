@@ -68,15 +68,25 @@ fn predicted_for(what: &[u8], kind: u8, arity: u8) {
     refusal(what, with_modes(kind, arity, PREDICTED_WRITE, READ, READ));
 }
 
+/// Only an outside job may have them.
+fn predicted_writes() {
+    refusal(
+        b"outside, modes 3 3 3",
+        with_modes(0, 3, PREDICTED_WRITE, PREDICTED_WRITE, PREDICTED_WRITE),
+    );
+    predicted_for(b"set 3", kinds::SET, 1);
+    predicted_for(b"shift 3", kinds::SHIFT, 1);
+    predicted_for(b"spike 3 0", kinds::SPIKE, 2);
+    predicted_for(b"floor 3", kinds::FLOOR, 1);
+    predicted_for(b"mean 3 0 0", kinds::MEAN, 3);
+    predicted_for(b"pair 3 0", kinds::PAIR, 2);
+}
+
 pub fn kinds_and_modes() {
     lines::heading(b"refusal 8: the kind and its modes");
     refusal(
         b"outside, free modes 1 2 0",
         with_modes(0, 3, WRITE, UNCERTAIN_WRITE, READ),
-    );
-    refusal(
-        b"outside, modes 3 3 3",
-        with_modes(0, 3, PREDICTED_WRITE, PREDICTED_WRITE, PREDICTED_WRITE),
     );
     refusal(b"set 1", with_modes(kinds::SET, 1, WRITE, READ, READ));
     refusal(b"shift 1", with_modes(kinds::SHIFT, 1, WRITE, READ, READ));
@@ -109,12 +119,7 @@ pub fn kinds_and_modes() {
     refusal(b"pair 1 1", with_modes(kinds::PAIR, 2, WRITE, WRITE, READ));
     refusal(b"kind 7", with_modes(7, 1, WRITE, READ, READ));
     refusal(b"kind 255", with_modes(255, 1, WRITE, READ, READ));
-    predicted_for(b"set 3", kinds::SET, 1);
-    predicted_for(b"shift 3", kinds::SHIFT, 1);
-    predicted_for(b"spike 3 0", kinds::SPIKE, 2);
-    predicted_for(b"floor 3", kinds::FLOOR, 1);
-    predicted_for(b"mean 3 0 0", kinds::MEAN, 3);
-    predicted_for(b"pair 3 0", kinds::PAIR, 2);
+    predicted_writes();
 }
 
 pub fn order() {
