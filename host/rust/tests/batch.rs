@@ -210,6 +210,45 @@ fn a_guess_whose_source_gives_the_same_again_is_kept() {
     assert_eq!(batch.commit(2), Err(Refusal::GUESS_FALLEN));
 }
 
+/// P16, with this height in the report of job 0.
+fn gauge_found(height: i32) -> Batch {
+    let write = [(0, Mode::Write)];
+    let mut batch = sealed(&[1500], &[Job::outside(0, &write), Job::outside(0, &write).predicting(0, 1510)]);
+    batch.start_own(0).unwrap();
+    assert_eq!(batch.start_speculation(1), Ok([1510, 0, 0, 0]));
+    batch.report_speculation(1, Report::of(&[1530])).unwrap();
+    batch.report_own(0, Report::of(&[height])).unwrap();
+    batch
+}
+
+#[test]
+fn a_guess_with_a_right_forecast_is_kept() {
+    let mut batch = gauge_found(1510);
+    assert_eq!(validity(&batch, 1), Validity::Valid);
+    batch.commit(1).unwrap();
+    assert_eq!(batch.cells(), [1530]);
+    let mut batch = gauge_found(1511);
+    assert_eq!(validity(&batch, 1), Validity::Invalid);
+    assert_eq!(batch.commit(1), Err(Refusal::GUESS_FALLEN));
+    assert_eq!(batch.start_own(1), Ok([1511, 0, 0, 0]));
+}
+
+/// The access keeps its place, whatever its mode was; one that is not there comes last, and a fifth is counted alone.
+#[test]
+fn a_forecast_is_said_of_an_access() {
+    let job = Job::outside(0, &[(5, Mode::Read), (0, Mode::Write)]).predicting(0, 1510).predicting(2, -7);
+    assert_eq!(job.accesses.map(|access| (access.cell, access.mode)), [(5, 0), (0, 3), (2, 3), (0, 0)]);
+    assert_eq!((job.arity, job.predicted), (3, [0, 1510, -7, 0]));
+    assert_eq!(job.predicting(5, 1).predicting(0, 2).predicted, [1, 2, -7, 0]);
+    let four = job.predicting(3, 8);
+    let five = four.predicting(4, 9);
+    assert_eq!((five.arity, five.accesses, five.predicted), (5, four.accesses, [0, 1510, -7, 8]));
+    let mut batch = Batch::open(&[0; 6]).unwrap();
+    assert_eq!(batch.insert(five), Err(Refusal::ACCESS_COUNT));
+    assert_eq!(batch.insert(four), Ok(0));
+    assert_eq!(batch.job(0).unwrap().job, four);
+}
+
 /// R115: the report of a guess that has fallen is taken; without a stored one the start waits.
 #[test]
 fn a_guess_is_started_from_a_fallen_one() {
@@ -433,12 +472,14 @@ fn refusals_of_the_host_and_the_reader() {
 
 #[test]
 fn a_record_is_kept_and_taken_up_again() {
-    let mut batch = sealed(&[1300, -5], &[Job::floor(0, 1400), Job::shift(0, 20)]);
+    let forecast = Job::outside(0, &[]).predicting(0, -6);
+    let mut batch = sealed(&[1300, -5], &[Job::floor(0, 1400), Job::shift(0, 20), forecast]);
     batch.start_own(0).unwrap();
     batch.start_speculation(1).unwrap();
     let bytes = batch.record().to_bytes();
     let mut again = Batch::from_record(Record::from_bytes(&bytes)).unwrap();
     assert_eq!(again, batch);
+    assert_eq!(again.start_speculation(2), Ok([-6, 0, 0, 0]));
     again.report_own(0, Report::default()).unwrap();
     assert_eq!(Batch::from_record(Record::from_bytes(&[0; Record::SIZE])), Err(Refusal::OUT_OF_FORM));
     assert_eq!(Batch::from_record(Record::from_bytes(&[255; Record::SIZE])), Err(Refusal::OUT_OF_FORM));
@@ -485,12 +526,14 @@ fn calls_keep_a_record_in_form() {
 #[test]
 fn a_batch_is_shown_in_a_few_words() {
     let mut batch = sealed(&[1300, -5], &[Job::floor(0, 1400), Job::shift(0, 20), Job::spike(1, 0, 9)]);
+    batch.insert(Job::outside(4, &[]).predicting(1, -6)).unwrap();
     batch.start_own(0).unwrap();
     batch.start_speculation(1).unwrap();
     let early = "Batch { cells: [1300, -5], sealed: true, speculating: true, jobs: {\
         0: Floor 1400 MaybeWrite(0): NotYet, running, \
         1: Shift 20 Write(0): NotYet, speculation Out Undecided, \
-        2: Spike 9 MaybeWrite(1) Read(0): NotYet} }";
+        2: Spike 9 MaybeWrite(1) Read(0): NotYet, \
+        3: Outside 4 PredictedWrite(1, -6): NotYet} }";
     assert_eq!(format!("{batch:?}"), early);
     batch.report_own(0, Report::written(&[1400])).unwrap();
     batch.start_own(1).unwrap();
@@ -505,9 +548,11 @@ fn a_batch_is_shown_in_a_few_words() {
         0: Floor 1400 MaybeWrite(0): ByOwnRun, wrote,
         1: Shift 20 Write(0): NotYet, running, speculation Discarded NoRun,
         2: Spike 9 MaybeWrite(1) Read(0): NotYet,
+        3: Outside 4 PredictedWrite(1, -6): NotYet,
     },
 }";
     assert_eq!(format!("{batch:#?}"), late);
+    batch.start_speculation(3).unwrap();
     assert_eq!(format!("{:?}", batch.choose()), "Err(NOTHING_TO_START (19))");
 }
 
