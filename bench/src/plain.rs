@@ -206,29 +206,19 @@ impl Plain {
         Ok(())
     }
 
-    /// One pass from the last job to the first: for each cell it is enough to
-    /// know the longest chain so far that begins with any use of it, and with
-    /// one that is not a read.
+    /// One pass from the last job to the first: a chain goes on from the cells
+    /// that a job may write, with any later use of them (R22, R24). So for each
+    /// cell it is enough to know the longest chain that begins with a use of it.
     fn compute_chain_lengths(&mut self) {
-        let mut with_any_use = [0u8; MOST_CELLS];
-        let mut with_a_write = [0u8; MOST_CELLS];
+        let mut with_a_use = [0u8; MOST_CELLS];
         for number in (0..self.job_count).rev() {
             let job = &self.jobs[number];
-            let mut length = 1;
+            let written = job.used().iter().filter(|access| access.mode != READ);
+            let later = written.map(|access| with_a_use[access.cell as usize]).max();
+            let length = 1 + later.unwrap_or(0);
             for access in job.used() {
-                let cell = access.cell as usize;
-                let later = match access.mode {
-                    READ => with_a_write[cell],
-                    _ => with_any_use[cell],
-                };
-                length = length.max(1 + later);
-            }
-            for access in job.used() {
-                let cell = access.cell as usize;
-                with_any_use[cell] = with_any_use[cell].max(length);
-                if access.mode != READ {
-                    with_a_write[cell] = with_a_write[cell].max(length);
-                }
+                let longest = &mut with_a_use[access.cell as usize];
+                *longest = length.max(*longest);
             }
             self.chain_lengths[number] = length;
         }
@@ -446,12 +436,17 @@ impl Plain {
 
 // The chooser, and asking.
 impl Plain {
-    /// Of these jobs the one with the longest chain; the lowest where chains tie.
-    fn longest(&self, jobs: impl Iterator<Item = usize>) -> Option<(usize, u8)> {
+    /// Of these jobs the one with the longest chain; where chains tie the one with
+    /// the fewest accesses, and the lowest of those (R61).
+    fn preferred(&self, jobs: impl Iterator<Item = usize>) -> Option<(usize, u8)> {
         let mut best: Option<(usize, u8)> = None;
         for job in jobs {
             let length = self.chain_lengths[job];
-            if best.map_or(true, |(_, longest)| length > longest) {
+            let goes_before = best.map_or(true, |(other, longest)| {
+                let fewer = self.jobs[job].used().len() < self.jobs[other].used().len();
+                length > longest || length == longest && fewer
+            });
+            if goes_before {
                 best = Some((job, length));
             }
         }
@@ -478,16 +473,16 @@ impl Plain {
             }
         }
         let commits = members(ready & valid & self.speculation_stored);
-        if let Some((job, length)) = self.longest(commits) {
+        if let Some((job, length)) = self.preferred(commits) {
             return Ok((engine::COMMIT, job, length));
         }
-        if let Some((job, length)) = self.longest(members(ready & !valid)) {
+        if let Some((job, length)) = self.preferred(members(ready & !valid)) {
             return Ok((engine::START_OWN, job, length));
         }
         if self.speculating {
             let waiting = members(idle & !ready & !self.speculation_started);
             let allowed = waiting.filter(|&job| self.can_speculate(job));
-            if let Some((job, length)) = self.longest(allowed) {
+            if let Some((job, length)) = self.preferred(allowed) {
                 return Ok((engine::START_SPECULATION, job, length));
             }
         }

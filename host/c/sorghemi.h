@@ -200,7 +200,8 @@ typedef struct {
     sorghemi_batch batch;
 } sorghemi_answer;
 
-/* What the chooser names: a step, its job, and the length of the job's chain. Zeros where it is refused. */
+/* What the chooser names: a step, its job, and the length of the job's chain, which is the longest list of jobs from it on in which
+   each names a cell that the one before it may write. Zeros where it is refused. */
 typedef struct {
     uint8_t refusal;
     uint8_t step;

@@ -20,7 +20,7 @@ fn of_access_and_job(what: &[u8], access: dependence::Access, other: dependence:
 }
 
 fn of_jobs(what: &[u8], earlier: dependence::Job, later: dependence::Job) {
-    lines::answer(b"Job::conflicts_with", what, earlier.conflicts_with(later));
+    lines::number(b"Job::conflict_sort", what, earlier.conflict_sort(later));
 }
 
 pub fn accesses() {
@@ -68,9 +68,12 @@ pub fn places() {
 }
 
 pub fn jobs() {
-    lines::heading(b"two jobs: a shared cell, and not both read it");
+    lines::heading(
+        b"two jobs: 1 if the later names what the earlier may write, else 2 if it may write what the earlier reads",
+    );
     let reader = job::of_one(5, READ);
     let maybe = job::of_one(5, UNCERTAIN_WRITE);
+    let predicting = job::of_one(5, PREDICTED_WRITE);
     let last = job::last_place(4, job::access(5, WRITE));
     let unused = job::last_place(3, job::access(5, WRITE));
     of_jobs(b"read and read", reader, reader);
@@ -85,5 +88,18 @@ pub fn jobs() {
         b"write 5 and write 6",
         job::of_one(5, WRITE),
         job::of_one(6, WRITE),
+    );
+    of_jobs(b"maybe-write and maybe-write", maybe, maybe);
+    of_jobs(b"read and predicted write", reader, predicting);
+    of_jobs(b"predicted write and read", predicting, reader);
+    of_jobs(
+        b"read 5 and write 6, then write 5 and read 6",
+        job::of_two(READ, WRITE),
+        job::of_two(WRITE, READ),
+    );
+    of_jobs(
+        b"write 5 and read 6, then read 5 and write 6",
+        job::of_two(WRITE, READ),
+        job::of_two(READ, WRITE),
     );
 }

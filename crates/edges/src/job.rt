@@ -25,6 +25,12 @@ pub fn of_one(cell: u8, mode: u8) -> Job {
     of_kind(0, 1, access(cell, mode), unused, unused, unused)
 }
 
+/// A job of two accesses, to cells 5 and 6.
+pub fn of_two(of_5: u8, of_6: u8) -> Job {
+    let unused = access(0, READ);
+    of_kind(0, 2, access(5, of_5), access(6, of_6), unused, unused)
+}
+
 /// A job that reads cells 1 to 3 and has the access in its last place; the first `arity` places are in use.
 pub fn last_place(arity: u8, last: Access) -> Job {
     of_kind(

@@ -19,6 +19,15 @@ fn readers_and_writer() -> [dependence::Job; 128] {
     jobs
 }
 
+/// A writer of a cell, and 127 readers of it after it.
+fn writer_and_readers() -> [dependence::Job; 128] {
+    let reader = job::of_one(5, READ);
+    let writer = job::of_one(5, WRITE);
+    let mut jobs = [reader; 128];
+    jobs[0] = writer;
+    jobs
+}
+
 pub fn flags_of_writers() {
     lines::heading(b"the pass for readiness, 128 jobs on one cell");
     let mut settled = [0u8; 128];
@@ -76,8 +85,16 @@ pub fn chains_of_readers() {
     lines::number(b"chain_lengths", b"job 0", lengths[0]);
     lines::number(b"chain_lengths", b"job 126", lengths[126]);
     lines::number(b"chain_lengths", b"job 127", lengths[127]);
-    let readers = passes::chain_lengths(readers_and_writer(), 127);
-    lines::number(b"chain_lengths", b"without the writer, job 0", readers[0]);
+    let fed = passes::chain_lengths(writer_and_readers(), 128);
+    lines::number(b"chain_lengths", b"the writer first, job 0", fed[0]);
+    lines::number(b"chain_lengths", b"the writer first, job 1", fed[1]);
+    lines::number(b"chain_lengths", b"the writer first, job 127", fed[127]);
+    let alone = passes::chain_lengths(writer_and_readers(), 1);
+    lines::number(
+        b"chain_lengths",
+        b"the writer without the readers, job 0",
+        alone[0],
+    );
 }
 
 pub fn chains_of_counts() {

@@ -25,7 +25,7 @@ use Rattle.engine.specs.Record.{committedAt, snapshotOf}
 use Rattle.engine.specs.StepLaws.{ready-is}
 use Rattle.engine.specs.Speculation.{isDue}
 use Rattle.engine.specs.InvalidRun.{runStale, invalid-is}
-use Rattle.engine.specs.Chooser.{allows, better, pickBelow}
+use Rattle.engine.specs.Chooser.{allows, better, noPick, pickBelow, chainAt, arityAt}
 
 -- The tests of each step after those that every step makes.
 
@@ -73,16 +73,16 @@ pub record Surveyed (b : Batch) (readies : List Bool) (chains : List ℕ) : Type
 
 -- The pick among the jobs before j.
 abbrev pub pickBefore : Batch → (ℕ → Call) → ℕ → Pick
-pickBefore b step j = pickBelow j (λ i. allows (snapshotOf b) (step i)) (chainLengthAt (b .jobs) (b .«job_count»))
+pickBefore b step j = pickBelow j (λ i. allows (snapshotOf b) (step i)) (chainAt b) (arityAt b)
 
-pub pick-none : (b : Batch) (step : ℕ → Call) → record { job = 0; chain = 0 } ≡ pickBefore b step 0
+pub pick-none : (b : Batch) (step : ℕ → Call) → noPick ≡ pickBefore b step 0
 unfolding pickBelow
 pick-none b step = refl
 
-pick-more : (n : ℕ) (allowed : ℕ → Bool) (chain : ℕ → ℕ)
-    → pickBelow (n + 1) allowed chain ≡ better (pickBelow n allowed chain) (allowed n) n (chain n)
+pick-more : (n : ℕ) (allowed : ℕ → Bool) (chain arity : ℕ → ℕ)
+    → pickBelow (n + 1) allowed chain arity ≡ better (pickBelow n allowed chain arity) (allowed n) n (chain n) (arity n)
 unfolding pickBelow
-pick-more n allowed chain = rw add-one
+pick-more n allowed chain arity = rw add-one
 
 -- A settled job is refused with 13, whatever its guess was handed.
 
@@ -126,7 +126,7 @@ module _ (b : Batch) (readies : List Bool) (chains : List ℕ) (survey : Surveye
   abbrev pub dueStale : Bool
   dueStale = isDue (getD (b .committed) j 0) (getD readies j false) (getD (b .phase) j 0) && runStale b j
 
-  pub chain-at : getD chains j 0 ≡ chainLengthAt (b .jobs) (b .«job_count») j
+  pub chain-at : getD chains j 0 ≡ chainAt b j
   chain-at =
       rw (survey .chains-are)
       (column-at 128 (b .«job_count») j (chainLengthAt (b .jobs) (b .«job_count»)) 0 0 held (omega (arith, survey .few)))
@@ -173,8 +173,8 @@ module _ (b : Batch) (readies : List Bool) (chains : List ℕ) (survey : Surveye
   -- The turn of job j.
   pub pick-step : (step : ℕ → Call) (pick next : Pick) (allowed : Bool) → pick ≡ pickBefore b step j
       → allowed ≡ allows (snapshotOf b) (step j)
-      → next ≡ better pick allowed j (getD chains j 0)
+      → next ≡ better pick allowed j (getD chains j 0) (arityAt b j)
       → next ≡ pickBefore b step (j + 1)
   pick-step step pick next allowed e f g =
       rw (g, e, f, chain-at)
-      (sym (pick-more j (λ i. allows (snapshotOf b) (step i)) (chainLengthAt (b .jobs) (b .«job_count»))))
+      (sym (pick-more j (λ i. allows (snapshotOf b) (step i)) (chainAt b) (arityAt b)))

@@ -1,7 +1,7 @@
 //! The chooser: which step to take next, and on which job.
 
 ghost use mathlib.Core.Path.{_≡_};
-ghost use Rattle.engine.specs.Chooser.{better, pickFor, refused, named, chosen};
+ghost use Rattle.engine.specs.Chooser.{better, noPick, pickFor, refused, named, chosen};
 ghost use Rattle.engine.specs.ChooserPass.{Surveyed, commitPasses, speculationPasses, ownPasses, stepPasses, stepCall};
 use crate::Batch;
 use crate::Choice;
@@ -11,10 +11,22 @@ use crate::steps::commit_refusal;
 use crate::steps::start_own_refusal;
 use crate::steps::start_speculation_refusal;
 
-/// A job and the length of its chain; length 0 where no job is picked.
+/// A job, the length of its chain and how many accesses it has; length 0 where no job is picked.
 struct Pick {
     job: u8,
     chain: u8,
+    arity: u8,
+}
+
+/// The pick among no jobs.
+fn no_pick() -> Pick
+    ensures { λ r. ⌜ r ≡ noPick ⌝ }
+{
+    Pick {
+        job: 0,
+        chain: 0,
+        arity: 0,
+    }
 }
 
 /// The answer where nothing is chosen.
@@ -41,13 +53,19 @@ fn named(step: u8, pick: Pick) -> Choice
     }
 }
 
-/// The pick, or the job if it is allowed and its chain is longer: the earlier of two equals stays.
-fn better(pick: Pick, allowed: bool, job: u8, chain: u8) -> Pick
-    ensures { λ r. ⌜ r ≡ better pick allowed job chain ⌝ }
+/// The pick, or the job if it is allowed and its chain is longer, or as long with fewer accesses: the earlier of two equals
+/// stays.
+fn better(pick: Pick, allowed: bool, job: u8, chain: u8, arity: u8) -> Pick
+    ensures { λ r. ⌜ r ≡ better pick allowed job chain arity ⌝ }
 {
     if allowed {
         if pick.chain < chain {
-            return Pick { job, chain };
+            return Pick { job, chain, arity };
+        }
+        if pick.chain == chain {
+            if arity < pick.arity {
+                return Pick { job, chain, arity };
+            }
         }
     }
     pick
@@ -110,9 +128,10 @@ impl Batch {
         let held = self.runs;
         let cells = self.cells;
         let mut nearest = [0u8; 256];
-        let mut pick = Pick { job: 0, chain: 0 };
+        let mut pick = no_pick();
         let mut j: usize = 0;
         while j < n {
+            let arity = jobs[j].arity;
             let how = committed[j];
             let running = outs[j];
             let phase = phases[j];
@@ -136,15 +155,15 @@ impl Batch {
             }
             let on = self.speculating != 0;
             let allowed = step_passes(step, on, how, running, phase, is_ready, invalid, missing);
-            let next = better(pick, allowed, j as u8, chain);
+            let next = better(pick, allowed, j as u8, chain, arity);
             pick = next;
             j += 1;
         }
         pick
     }
 
-    /// R60 to R62: names an allowed step 4, else 0, else 1, on the job with the longest chain, the lowest of equals.
-    /// Refused with 10, with 19 where there is none, or with 32.
+    /// R60 to R62: names an allowed step 4, else 0, else 1, on the job with the longest chain; of equal chains on the job with
+    /// the fewest accesses, and of those on the lowest. Refused with 10, with 19 where there is none, or with 32.
     pub fn choose(self) -> Choice
         ensures { λ r. ⌜ r ≡ chosen self ⌝ }
     {

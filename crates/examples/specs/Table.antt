@@ -1,5 +1,5 @@
--- The worked examples P1 to P9 and P11 to P18 as one table, shown by one theorem about the definitions.
--- The rows behind P18 are points of the same plans at which a call is refused, and a job of four accesses.
+-- The worked examples P1 to P9 and P11 to P20 as one table, shown by one theorem about the definitions.
+-- The rows behind P20 are points of the same plans at which a call is refused, and a job of four accesses.
 use Prim.Native.Nat.{ℕ, zero, suc}
 use mathlib.Core.Bool.{Bool, true, false}
 use mathlib.Core.List.{List, [], _∷_}
@@ -15,18 +15,22 @@ use Rattle.dependence.specs.declared.Access.{Access}
 use Rattle.dependence.specs.declared.Job.{Job}
 use Rattle.dependence.specs.Job.{noAccess, noPredictions}
 use Rattle.dependence.specs.Conflict.{touches, conflicts}
+use Rattle.dependence.specs.Sort.{namesCell, mayWriteCell, flows, overwrites, sortOf}
 use Rattle.admission.specs.Admission.{kindModes, jobRefusal}
+use Rattle.passes.specs.Chain.{longest}
 use Rattle.kinds.specs.Kinds.{reported, tableOf, resultOf}
 use Rattle.jobset.specs.JobSet.{bit, withBit, hasJob, withJob, reachesTo}
 use Rattle.rules.specs.Values.{valueBelow, writeBack}
 use Rattle.rules.specs.Walk.{sourceBelow}
 use Rattle.rules.specs.Speculation.{isReady, isValid, isInvalid, validity}
+use Rattle.rules.specs.Refusals.{refusalOf}
 use Rattle.walk.specs.Sources.{setOf}
 use Rattle.engine.specs.Form.{jobOut, inForm}
 use Rattle.engine.specs.Opening.{opened, withInserted, inserted, withSealed, sealedWith}
 use Rattle.engine.specs.Steps.{withJobChanged, startedOwn, startedSpeculation, reportedOwn, reportedSpeculation, committedBy}
 use Rattle.engine.specs.Perform.{perform}
 use Rattle.engine.specs.Ask.{cellRefusal, askedCell, jobAskRefusal, shownJob, askedJob, isFinished, askedBatch}
+use Rattle.engine.specs.Chooser.{pickBelow, chosen}
 use Rattle.tally.specs.declared.Tally.{Tally}
 use Rattle.tally.specs.Tally.{tallyBelow, given, tallied}
 use Rattle.tally.specs.Examples.{numbers}
@@ -41,6 +45,8 @@ pub data Example : Type 0 where
   gives : ℕ → ℤ → List ℤ → List ℤ → ℕ → Example
   -- the two jobs conflict, or not
   conflict : Job → Job → Bool → Example
+  -- the earlier and the later job, and the sort of their conflict
+  sort : Job → Job → ℕ → Example
   -- the answers to the plan's lines
   answers : Plan → List ℕ → Example
   -- after the plan: the job, how it is settled, and its mark
@@ -59,12 +65,17 @@ pub data Example : Type 0 where
   past : Plan → ℕ → SetAnswer → SetAnswer → Example
   -- after the plan: the job whose guess is asked for, and the refusal
   notTold : Plan → ℕ → ℕ → Example
+  -- after the plan: what the chooser names: a step, a job, and the length of its chain
+  names : Plan → ℕ → ℕ → ℕ → Example
+  -- after the plan: the chooser's refusal
+  namesNone : Plan → ℕ → Example
   -- after the plan: one line more, and the answer to it
   next : Plan → Line → ℕ → Example
 
 abbrev pub Holds : Example → Type 0
 Holds (gives kind p handed values mark) = resultOf kind p handed ≡ reported values mark
 Holds (conflict earlier later answer) = conflicts earlier later ≡ answer
+Holds (sort earlier later number) = sortOf earlier later ≡ number
 Holds (answers plan list) = answersIn plan ≡ list
 Holds (settled plan j how mark) = settledIn (final plan) j ≡ record { how = how; mark = mark }
 Holds (height plan x value) = askedCell (final plan) x .height ≡ value
@@ -74,6 +85,8 @@ Holds (tally plan numbers) = tallied (final plan) ≡ given numbers
 Holds (held plan jobs finished) = heldIn (final plan) ≡ record { jobs = jobs; finished = finished }
 Holds (past plan j all left) = askedSpeculation (final plan) j ≡ record { refusal = 0; bypassed = all; «open» = left }
 Holds (notTold plan j answer) = askedSpeculation (final plan) j .refusal ≡ answer
+Holds (names plan number j length) = chosen (final plan) ≡ record { refusal = 0; step = number; job = j; chain = length }
+Holds (namesNone plan answer) = chosen (final plan) ≡ record { refusal = answer; step = 0; job = 0; chain = 0 }
 Holds (next plan line answer) = answerTo (final plan) line ≡ answer
 
 -- The kinds by their names.
@@ -333,6 +346,38 @@ planModes = record { heights = pos 1500 ∷ []; lines = [] }
 abbrev planPredicted : Plan
 planPredicted = record { heights = pos 1500 ∷ []; lines = insertion (predicting 3) ∷ sealing 1 ∷ step 0 0 ∷ [] }
 
+-- P19: jobs of one access, and jobs that meet in two cells.
+abbrev user : ℕ → Job
+user mode = accessing outside (pos 0) (to 0 mode)
+
+abbrev spikeOf : ℕ → ℕ → Job
+spikeOf a b = record {
+  kind = spike;
+  arity = 2;
+  accesses = to a 2 ∷ to b 0 ∷ noAccess ∷ noAccess ∷ [];
+  parameter = pos 1000;
+  predicted = noPredictions;
+}
+
+-- P20: a mean that only order ties to what comes after it, and three jobs with fewer accesses. All are started, the mean last.
+abbrev plan20 : Plan
+plan20 = record {
+  heights = pos 1500 ∷ pos 1500 ∷ pos 1500 ∷ pos 1500 ∷ pos 1500 ∷ pos 1500 ∷ pos 1500 ∷ [];
+  lines =
+      insertion (meanOf 0 1 2)
+      ∷ insertion (jobOn shift (pos 5) 1)
+      ∷ insertion (spikeOf 3 4)
+      ∷ insertion (jobOn floor (pos 1400) 5)
+      ∷ insertion (jobOn floor (pos 1400) 6)
+      ∷ sealing 0
+      ∷ step 0 3
+      ∷ step 0 4
+      ∷ step 0 2
+      ∷ step 0 0
+      ∷ step 2 0
+      ∷ [];
+}
+
 -- P8's jobs with guessing off.
 abbrev planOff : Plan
 planOff = record {
@@ -420,6 +465,7 @@ table =
     ∷ held plan8 2 true
     ∷ held (plan8 then late) 3 false
     ∷ next (plan8 then late) (sealing 1) 2
+    ∷ names (plan8 then late) 0 2 1
     ∷ answers planLate (0 ∷ 0 ∷ 0 ∷ 0 ∷ 0 ∷ 0 ∷ 0 ∷ 0 ∷ 0 ∷ 0 ∷ 0 ∷ [])
     ∷ settled planLate 2 1 0
     ∷ held planLate 3 true
@@ -489,6 +535,31 @@ table =
     ∷ next planModes (insertion (predicting 4)) 6
     ∷ next planModes (insertion (accessing shift (pos 20) (to 0 3))) 8
     ∷ next planPredicted (ownReport 0 (one (pos 1500)) 1) 16
+    -- P19 sorts of conflict: by the modes of two jobs on one cell; a mean and a shift of what it reads, in both orders; two spikes,
+    -- each of which reads what the other may write.
+    ∷ sort (user 0) (user 0) 0
+    ∷ sort (user 0) (user 1) 2
+    ∷ sort (user 0) (user 2) 2
+    ∷ sort (user 0) (user 3) 2
+    ∷ sort (user 1) (user 0) 1
+    ∷ sort (user 1) (user 1) 1
+    ∷ sort (user 2) (user 0) 1
+    ∷ sort (user 2) (user 2) 1
+    ∷ sort (user 3) (user 0) 1
+    ∷ sort (user 3) (user 3) 1
+    ∷ sort (meanOf 0 1 2) (jobOn shift (pos 5) 1) 2
+    ∷ sort (jobOn shift (pos 5) 1) (meanOf 0 1 2) 1
+    ∷ sort (spikeOf 0 1) (spikeOf 1 0) 1
+    -- P20 the chooser: of chains of length 1 the job with fewest accesses, and the lower number; 19 until the mean is settled. A
+    -- longer chain goes before.
+    ∷ answers plan20 (0 ∷ 0 ∷ 0 ∷ 0 ∷ 0 ∷ 0 ∷ 0 ∷ 0 ∷ 0 ∷ 0 ∷ 0 ∷ [])
+    ∷ names (first 6 plan20) 0 3 1
+    ∷ names (first 7 plan20) 0 4 1
+    ∷ names (first 8 plan20) 0 2 1
+    ∷ names (first 9 plan20) 0 0 1
+    ∷ namesNone (first 10 plan20) 19
+    ∷ names plan20 0 1 1
+    ∷ names (first 6 plan20 then insertion (jobOn shift (pos 5) 0)) 0 0 2
     -- R79: a guess that only took from another; a guess that its job is settled by.
     ∷ past (first 9 plan9) 2 noJobs noJobs
     ∷ past plan8 1 (jobsFrom 1 0) noJobs
@@ -553,7 +624,7 @@ unfolding resultOf tableOf conflicts touches
     perform answersTo afterAll cellRefusal askedCell jobAskRefusal shownJob askedJob isFinished askedBatch opened inserted sealedWith startedOwn startedSpeculation reportedOwn reportedSpeculation committedBy
     withInserted withSealed withJobChanged inForm jobOut jobRefusal firstOf isReady isValid isInvalid validity sameHeight
     sourceBelow valueBelow setOf writeBack bit withBit hasJob withJob reachesTo anyBelow foldBelow tallied tallyBelow countBelow
-    askedSpeculation shownSet leastBelow
+    askedSpeculation shownSet leastBelow sortOf flows overwrites namesCell mayWriteCell chosen pickBelow longest refusalOf
 examples-hold =
     refl also refl  -- P1
     also refl also refl  -- P2
@@ -565,7 +636,7 @@ examples-hold =
     also refl also refl also refl also refl also refl  -- P8
     also refl also refl also refl also refl also refl also refl also refl  -- P9
     also refl also refl also refl also refl also refl also refl  -- P11
-    also refl also refl also refl also refl also refl also refl also refl also refl  -- P12, after the end
+    also refl also refl also refl also refl also refl also refl also refl also refl also refl  -- P12, after the end
     also refl also refl also refl also refl also refl also refl  -- P12, meanwhile
     also refl also refl also refl also refl also refl also refl also refl also refl also refl also refl  -- P13
     also refl also refl also refl also refl also refl also refl also refl also refl also refl also refl also refl  -- P14
@@ -573,6 +644,9 @@ examples-hold =
     also refl also refl also refl also refl also refl also refl also refl also refl also refl  -- P16
     also refl also refl also refl also refl also refl also refl also refl also refl  -- P17
     also refl also refl also refl also refl  -- P18
+    also refl also refl also refl also refl also refl also refl also refl  -- P19, sorts by
+    also refl also refl also refl also refl also refl also refl  -- modes and by cells
+    also refl also refl also refl also refl also refl also refl also refl also refl  -- P20
     also refl also refl  -- other guesses that are told of
     also refl also refl also refl also refl also refl also refl  -- how a guess is judged
     also refl  -- 12

@@ -1,5 +1,6 @@
 //! Readiness and chain lengths of all jobs of a list, each in one pass.
-//! A pass keeps two tables of one number a cell: what a later reader of the cell meets, and what a writer of it meets.
+//! A pass keeps tables of one number a cell. Readiness has two: what a later reader of the cell meets, and what a writer of it
+//! meets. The chains have one: what an earlier writer of the cell meets.
 //! It asks the dependence layer what conflicts, and never decides that itself.
 
 ghost use mathlib.Core.Path.{_≡_};
@@ -125,23 +126,23 @@ pub fn ready_flags(jobs: [Job; 128], committed: [u8; 128], job_count: usize) -> 
     flags
 }
 
-/// For each of the first `job_count` jobs the length of the longest chain of later jobs, each conflicting with the
-/// one before it, the job itself counted; 0 in the places after them.
+/// For each of the first `job_count` jobs the length of the longest chain of later jobs, each naming a cell that the one
+/// before it may write, the job itself counted; 0 in the places after them.
 pub fn chain_lengths(jobs: [Job; 128], job_count: usize) -> [u8; 128]
     ensures { λ r. ⌜ r ≡ column 128 «job_count» (chainLengthAt jobs «job_count») 0 ⌝ }
 {
     let mut lengths = [0u8; 128];
-    let mut for_reader = [0u8; 256];
-    let mut for_writer = [0u8; 256];
+    // no height flows from a cell that a job only reads: no chain goes on there
+    let nobody = [0u8; 256];
+    let mut named = [0u8; 256];
     let mut k = held(job_count);
     while 0 < k {
         let j = k - 1;
         let job = jobs[j];
-        let next = met_by(&for_reader, &for_writer, job);
+        let next = met_by(&nobody, &named, job);
         let length = next + 1;
         lengths[j] = length;
-        note(dependence::READ, job, length, &mut for_reader);
-        note(dependence::WRITE, job, length, &mut for_writer);
+        note(dependence::WRITE, job, length, &mut named);
         k = j;
     }
     lengths

@@ -14,7 +14,7 @@ pub struct Choice {
     pub step: Step,
     /// The job.
     pub job: usize,
-    /// How long the longest chain of jobs is that wait for each other, this job the first.
+    /// The length of the longest chain of jobs, this one the first, in which each has a cell that the one before it may write (R22).
     pub chain: usize,
 }
 
@@ -243,7 +243,8 @@ impl Batch {
         self.step(Step::Commit, job, Report::default()).map(drop)
     }
 
-    /// The step worth taking next.
+    /// The step worth taking next: a settling, else an own run, else a guess. Of the jobs that may take it the one with the longest
+    /// [chain](Choice::chain), of several such the one with the fewest accesses, and of several such again the lowest.
     ///
     /// # Errors
     ///

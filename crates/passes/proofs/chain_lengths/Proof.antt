@@ -11,10 +11,10 @@ use Rattle.passes.proofs.chain_lengths.Tie as tie
 
 -- the jobs from k on are done
 abbrev Inv-loop : tie.InvT-loop
-Inv-loop job-count jobs lengths₀ for-reader₀ for-writer₀ k₀ lengths for-reader for-writer k = (k ≤ min job-count 128) × ChainPass jobs job-count k lengths for-reader for-writer
+Inv-loop job-count jobs nobody lengths₀ named₀ k₀ lengths named k = (k ≤ min job-count 128) × ChainPass jobs job-count k lengths named
 
 abbrev μ-loop : tie.MeasureT-loop
-μ-loop job-count jobs lengths₀ for-reader₀ for-writer₀ k₀ lengths for-reader for-writer k = k
+μ-loop job-count jobs nobody lengths₀ named₀ k₀ lengths named k = k
 
 held-requires : tie.Need-held-requires Inv-loop μ-loop
 held-requires c κs = omega arith
@@ -46,7 +46,7 @@ add-length c =
     omega (
       arith,
       c .met-by .ensures .0,
-      chain-short (s .args .t1) (s .args .job-count) (l .k - 1) (l .lengths) (l .for-reader) (l .for-writer) long (omega arith)
+      chain-short (s .args .t1) (s .args .job-count) (l .k - 1) (l .lengths) (l .named) long (omega arith)
           (c .met-by .ensures .1) (rw e at (l .inv .1)),
     )
 
@@ -56,22 +56,19 @@ array-write-lengths c = omega arith
 note-requires : tie.Need-note-requires Inv-loop μ-loop
 note-requires c κs = omega arith
 
-note-requires-2 : tie.Need-note-requires-2 Inv-loop μ-loop
-note-requires-2 c κs = omega arith
-
 loop-less : tie.Need-loop-less Inv-loop μ-loop
 loop-less c = omega arith
 
 loop-again : tie.Need-loop-again Inv-loop μ-loop
 loop-again c =
-    let m = c .before .before .before .before in
+    let m = c .before .before in
     let l = m .before .before .before .before .before .loop in
     let s = m .before .before .before .before .before .before .before in
     let long : length (s .args .t1) ≡ 128 = search needs in
     let e : l .k ≡ suc (l .k - 1) = omega arith in (
       omega arith,
-      rw (c .note2 .ensures, c .before .before .note .ensures)
-          (chain-step (s .args .t1) (s .args .job-count) (l .k - 1) (l .lengths) (l .for-reader) (l .for-writer) long (omega arith)
+      rw (c .note .ensures)
+          (chain-step (s .args .t1) (s .args .job-count) (l .k - 1) (l .lengths) (l .named) long (omega arith)
           (m .met-by .ensures .1) (rw e at (l .inv .1)) (m .met-by .result + 1) (add-one _ ∙ ap suc (m .met-by .ensures .0))),
     )
 
@@ -97,7 +94,6 @@ chain-lengths-spec =
     add-length
     array-write-lengths
     note-requires
-    note-requires-2
     loop-less
     loop-again
     returns)

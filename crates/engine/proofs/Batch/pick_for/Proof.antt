@@ -31,12 +31,21 @@ abbrev μ-loop : tie.MeasureT-loop
 cast-n : tie.Need-cast-n Inv-loop μ-loop
 cast-n c = omega arith
 
+no-pick-requires : tie.Need-no-pick-requires Inv-loop μ-loop
+no-pick-requires c κs = search needs
+
 -- among no jobs
 loop-holds : tie.Need-loop-holds Inv-loop μ-loop
 loop-holds c =
-    let s = c .before .before .before .before .before .before .before in
+    let s = c .before .before .before .before .before .before .before .before in
     let b = s .args .self in
-    (omega arith, s .pre .few, refl, pick-none b (stepCall (s .args .step)), λ one. nearest-none (b .jobs) (b .committed))
+    (omega arith, s .pre .few, refl, c .no-pick .ensures ∙ pick-none b (stepCall (s .args .step)), λ one. nearest-none (b .jobs) (b .committed))
+
+mul-arity : tie.Need-mul-arity Inv-loop μ-loop
+mul-arity c = omega arith
+
+element-copy-out-arity : tie.Need-element-copy-out-arity Inv-loop μ-loop
+element-copy-out-arity c = omega arith
 
 array-read-how : tie.Need-array-read-how Inv-loop μ-loop
 array-read-how c = omega arith
@@ -83,7 +92,7 @@ sources-by-requires c κs = search needs
 -- the column has 128 places
 unusable-any-requires : tie.Need-unusable-any-requires Inv-loop μ-loop
 unusable-any-requires c κs =
-    let s = c .before .before .before .before .before .before .before .before .before .before .before .before .before .before .before .before in
+    let s = c .before .before .before .before .before .before .before .before .before .before .before .before .before .before .before .before .before in
     let long : length (s .args .self .phase) ≡ 128 = search needs in
     long
 
@@ -119,7 +128,7 @@ loop-again c =
     let due = found .before in
     let at = due .before .before in
     let l = at .loop in
-    let s = at .before .before .before .before .before .before .before .before in
+    let s = at .before .before .before .before .before .before .before .before .before in
     let a = s .args in
     let held : l .j < a .self .«job_count» = omega arith in
     let judged : found .if1 .invalid ≡ dueStale (a .self) (a .t3) (a .t4) (s .pre) (l .j) held =
@@ -152,7 +161,7 @@ loop-again c =
 returns : tie.Need-returns Inv-loop μ-loop
 returns c =
     let l = c .before .loop in
-    let e : l .j ≡ c .before .before .before .before .before .before .before .before .before .args .self .«job_count» = omega arith in
+    let e : l .j ≡ c .before .before .before .before .before .before .before .before .before .before .args .self .«job_count» = omega arith in
     rw (l .inv .3, e)
 
 pub pick-for-spec : {M : Type 1} → statement M
@@ -162,7 +171,10 @@ pick-for-spec =
     Inv-loop
     μ-loop
     cast-n
+    no-pick-requires
     loop-holds
+    mul-arity
+    element-copy-out-arity
     array-read-how
     array-read-running
     array-read-phase
