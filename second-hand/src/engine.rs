@@ -7,6 +7,7 @@
 //! a caller's hands; here the fields are closed to callers, so no record is ever
 //! out of form.
 
+use std::cmp::Reverse;
 use std::collections::BTreeSet;
 
 use crate::former;
@@ -169,12 +170,19 @@ fn is_write(mode: u32) -> bool {
     mode == WRITE || mode == PREDICTED
 }
 
-/// R20: a cell in common, and not both only read it.
-pub fn conflict(one: &Job, other: &Job) -> bool {
-    one.accesses.iter().any(|access| match other.access_to(access.cell) {
-        Some((_, mode)) => access.mode != READ || mode != READ,
-        None => false,
-    })
+/// R24: the sort of the conflict of an earlier and a later job, 0 where there is none
+/// (R20). The later one's accesses are gone through: 1 at the first cell that the earlier
+/// one may write; 2 is left where it only writes what the other reads.
+pub fn conflict(earlier: &Job, later: &Job) -> u32 {
+    let mut sort = 0;
+    for access in &later.accesses {
+        match earlier.access_to(access.cell) {
+            Some((_, mode)) if mode != READ => return 1,
+            Some(_) if access.mode != READ => sort = 2,
+            _ => {}
+        }
+    }
+    sort
 }
 
 // ---------------------------------------------------------------------------
@@ -262,11 +270,14 @@ impl Batch {
         self.jobs[job].settled != Settled::No
     }
 
-    /// R21: every earlier job in conflict with it is settled.
+    /// R24, of two jobs by their numbers.
+    fn sort(&self, earlier: usize, later: usize) -> u32 {
+        conflict(&self.jobs[earlier].job, &self.jobs[later].job)
+    }
+
+    /// R21: every earlier job in conflict with it, of whatever sort, is settled.
     fn is_ready(&self, job: usize) -> bool {
-        (0..job).all(|earlier| {
-            self.is_settled(earlier) || !conflict(&self.jobs[earlier].job, &self.jobs[job].job)
-        })
+        (0..job).all(|earlier| self.is_settled(earlier) || self.sort(earlier, job) == 0)
     }
 
     /// Whether the job has a guess to judge: out or stored, and the job is not settled
@@ -578,13 +589,13 @@ impl Batch {
 // The chooser
 
 impl Batch {
-    /// R22: for every job the length of the longest chain from it on.
+    /// R22: for every job the length of the longest chain from it on, by links of sort 1.
     fn chains(&self) -> Vec<u32> {
         let count = self.jobs.len();
         let mut chains = vec![1; count];
         for job in (0..count).rev() {
             for later in job + 1..count {
-                if conflict(&self.jobs[job].job, &self.jobs[later].job) {
+                if self.sort(job, later) == 1 {
                     chains[job] = chains[job].max(1 + chains[later]);
                 }
             }
@@ -592,27 +603,19 @@ impl Batch {
         chains
     }
 
-    /// R60: a step 4 if one is allowed, else a 0, else a 1. R61: of the job with
-    /// the longest chain, the lowest number first.
+    /// R60: a step 4 if one is allowed, else a 0, else a 1. R61: of the job with the
+    /// longest chain, then the fewest accesses, then the lowest number.
     pub fn choose(&self) -> Result<Choice, u32> {
         // R110: not sealed.
         if self.sealed.is_none() {
             return Err(10);
         }
         let chains = self.chains();
+        let rank = |&job: &usize| (Reverse(chains[job]), self.jobs[job].job.accesses.len(), job);
         for step in [SETTLE, START_OWN, START_GUESS] {
-            let mut best: Option<Choice> = None;
-            for job in 0..self.job_count() {
-                if self.would_answer(step, job) != Some(0) {
-                    continue;
-                }
-                let chain = chains[job as usize];
-                if best.map_or(true, |found| chain > found.chain) {
-                    best = Some(Choice { step, job, chain });
-                }
-            }
-            if let Some(choice) = best {
-                return Ok(choice);
+            let allowed = |job: &usize| self.would_answer(step, *job as u32) == Some(0);
+            if let Some(job) = (0..self.jobs.len()).filter(allowed).min_by_key(rank) {
+                return Ok(Choice { step, job: job as u32, chain: chains[job] });
             }
         }
         // R119: none is allowed.

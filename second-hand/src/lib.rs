@@ -2,6 +2,7 @@
 //! compared with the first one, so it is plain rather than fast, and the numbers of
 //! the rules (docs/RULES.md) stand where they are carried out.
 
+pub mod choosing;
 pub mod engine;
 pub mod former;
 pub mod frame;
@@ -9,6 +10,7 @@ pub mod judging;
 pub mod kinds;
 pub mod ledger;
 pub mod lists;
+pub mod picks;
 pub mod plan;
 pub mod plans;
 pub mod predictions;

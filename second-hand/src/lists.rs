@@ -228,6 +228,28 @@ impl Manner {
         [first, second]
     }
 
+    /// Jobs of all kinds and of outside ones that read much, so that conflicts are of either
+    /// sort (R24), on so many cells that several jobs can be started at once.
+    pub fn picking(dice: &mut Dice) -> Manner {
+        let cells = dice.pick(&[2, 3, 4, 5, 6, 8, 12]);
+        let jobs = 3 + dice.below(14);
+        let pool = some_pool(dice);
+        Manner {
+            heights: (0..cells).map(|_| height_of(dice, &pool)).collect(),
+            jobs: (0..jobs).map(|_| reading_job(dice, cells, &pool)).collect(),
+            early: dice.pick(&[jobs, jobs, jobs / 2, 0]),
+            guessing: u8::from(dice.percent(75)),
+            by_rule: false,
+            pool,
+            pace: dice.pick(&[10, 40]),
+            wild: dice.pick(&[0, 5, 20]),
+            eager: dice.pick(&[20, 50, 80]),
+            writes: dice.pick(&[0, 10, 40]),
+            same: dice.pick(&[0, 60, 90]),
+            behind: 0,
+        }
+    }
+
     /// Many jobs, most of which maybe-write, so that a guess may look past many, on both
     /// sides of job 64. Each cell comes up with a job of its own, often one about 64:
     /// what is looked past for its sake begins there.
@@ -282,14 +304,24 @@ impl Manner {
         [first, second]
     }
 
+    /// The jobs to insert.
+    pub fn jobs(&self) -> &[Job] {
+        &self.jobs
+    }
+
     /// A batch of `engine` with the same cells and jobs, as many as it holds, sealed with
     /// guessing on.
     pub fn batch(&self) -> Batch {
+        self.sealed_with(1)
+    }
+
+    /// The same, sealed with this switch.
+    pub fn sealed_with(&self, guessing: u8) -> Batch {
         let mut batch = Batch::open(&self.heights).unwrap();
         for &job in self.jobs.iter().take(FULL) {
             Call::Insert(job).on_batch(&mut batch);
         }
-        Call::Seal(1).on_batch(&mut batch);
+        Call::Seal(guessing).on_batch(&mut batch);
         batch
     }
 
@@ -468,6 +500,15 @@ fn predicting_job(dice: &mut Dice, cells: usize, pool: &[i32]) -> Job {
         }
     }
     job
+}
+
+/// Half of the time an outside job that mostly reads, else one of any kind.
+fn reading_job(dice: &mut Dice, cells: usize, pool: &[i32]) -> Job {
+    if dice.percent(50) {
+        return job_for(dice, cells, pool);
+    }
+    let modes = any_modes(dice, cells.min(4) as i64, &[0, 0, 0, 1, 2, 3]);
+    job_of(dice, cells, 0, &modes, pool)
 }
 
 /// Those of one access up to so many, each one of these.

@@ -258,7 +258,7 @@ impl Job {
             .fold(0, |set, &(cell, _)| set | 1 << cell)
     }
 
-    /// The cells of those accesses in use that are not a read.
+    /// The cells of those accesses in use that are not a read: those it may write.
     fn cells_not_read(&self) -> u64 {
         let not_read = self.used().iter().filter(|access| access.1 != READ);
         not_read.fold(0, |set, &(cell, _)| set | 1 << cell)
@@ -442,11 +442,15 @@ impl<'a> Rules<'a> {
         }
     }
 
-    /// R20: a cell in common, and not both only read it.
-    fn conflict(&self, one: usize, other: usize) -> bool {
-        let by_one = self.cells_not_read[one] & self.cells[other];
-        let by_other = self.cells[one] & self.cells_not_read[other];
-        by_one != 0 || by_other != 0
+    /// R24: the sort of the conflict of an earlier and a later job; 0 without one (R20).
+    fn sort(&self, earlier: usize, later: usize) -> u8 {
+        let passing = self.cells_not_read[earlier] & self.cells[later];
+        let overtaking = self.cells[earlier] & self.cells_not_read[later];
+        match (passing, overtaking) {
+            (0, 0) => 0,
+            (0, _) => 2,
+            _ => 1,
+        }
     }
 
     /// R93: where the number that says how is 1 or 2.
@@ -454,9 +458,9 @@ impl<'a> Rules<'a> {
         self.record.committed[job] != NOT_SETTLED
     }
 
-    /// R21: every earlier job in conflict with it is settled.
+    /// R21: every earlier job in conflict with it, of whatever sort, is settled.
     fn is_ready(&self, job: usize) -> bool {
-        (0..job).all(|earlier| self.is_settled(earlier) || !self.conflict(earlier, job))
+        (0..job).all(|earlier| self.is_settled(earlier) || self.sort(earlier, job) == 0)
     }
 
     fn own_is_out(&self, job: usize) -> bool {
@@ -542,15 +546,27 @@ impl<'a> Rules<'a> {
         Some(run)
     }
 
+    /// The later jobs with a conflict of sort 1: bit j is job j.
+    fn links(&self, job: usize) -> u128 {
+        let later = (job + 1..self.cells.len()).filter(|&later| self.sort(job, later) == 1);
+        later.fold(0, |set, later| set | 1 << later)
+    }
+
     /// R22: for every job the length of the longest chain from it on, over all jobs
-    /// held, settled ones too.
+    /// held, settled ones too. Those with no link to any that is left are taken out, all
+    /// at once, until none is left: each has the number of the round as its length.
     fn chains(&self) -> Vec<u8> {
-        let count = self.cells.len();
-        let mut chains = vec![1; count];
-        for job in (0..count).rev() {
-            for later in job + 1..count {
-                if self.conflict(job, later) && chains[job] < 1 + chains[later] {
-                    chains[job] = 1 + chains[later];
+        let links: Vec<u128> = (0..self.cells.len()).map(|job| self.links(job)).collect();
+        let mut chains = vec![0; links.len()];
+        let mut left = (0..links.len()).fold(0, |set, job| set | 1 << job);
+        let mut round = 0;
+        while left != 0 {
+            round += 1;
+            let before = left;
+            for job in (0..links.len()).filter(|job| before >> job & 1 == 1) {
+                if links[job] & before == 0 {
+                    chains[job] = round;
+                    left ^= 1 << job;
                 }
             }
         }
@@ -777,15 +793,15 @@ impl Record {
         let chains = rules.chains();
         // R60: a step 4 if one is allowed, else a 0, else a 1.
         for step in [SETTLE, START_OWN, START_GUESS] {
-            // R61: of the job with the longest chain, the lowest number first.
-            let mut best: Option<usize> = None;
-            for job in self.held() {
-                let longer = best.map_or(true, |named| chains[job] > chains[named]);
-                if longer && rules.refusal(step, job, 0) == 0 {
-                    best = Some(job);
-                }
-            }
-            if let Some(job) = best {
+            let mut left: Vec<usize> = self.held().collect();
+            left.retain(|&job| rules.refusal(step, job, 0) == 0);
+            // R61: those with the longest chain, of these those with the fewest
+            // accesses, of these the first.
+            let longest = left.iter().map(|&job| chains[job]).max();
+            left.retain(|&job| Some(chains[job]) == longest);
+            let fewest = left.iter().map(|&job| self.jobs[job].arity).min();
+            left.retain(|&job| Some(self.jobs[job].arity) == fewest);
+            if let Some(&job) = left.first() {
                 return (0, step, job as u8, chains[job]);
             }
         }

@@ -1,4 +1,4 @@
-//! The worked examples of the rules, P1 to P18, Monday's and Thursday's batch, and
+//! The worked examples of the rules, P1 to P20, Monday's and Thursday's batch, and
 //! some others.
 
 use second_hand::answer;
@@ -151,17 +151,18 @@ fn p7_conflict() {
         p: 0,
         accesses: vec![on(cell, mode)],
     };
-    assert!(!conflict(&job(0, READ), &job(0, READ)));
-    assert!(conflict(&job(0, READ), &job(0, MAYBE)));
-    assert!(conflict(&job(0, MAYBE), &job(0, READ)));
-    assert!(conflict(&job(0, READ), &job(0, WRITE)));
-    assert!(conflict(&job(0, WRITE), &job(0, WRITE)));
-    assert!(!conflict(&job(0, WRITE), &job(1, WRITE)));
+    let clash = |one: &Job, other: &Job| conflict(one, other) != 0;
+    assert!(!clash(&job(0, READ), &job(0, READ)));
+    assert!(clash(&job(0, READ), &job(0, MAYBE)));
+    assert!(clash(&job(0, MAYBE), &job(0, READ)));
+    assert!(clash(&job(0, READ), &job(0, WRITE)));
+    assert!(clash(&job(0, WRITE), &job(0, WRITE)));
+    assert!(!clash(&job(0, WRITE), &job(1, WRITE)));
     // R23: a predicted write is a write.
     for mode in [READ, WRITE, MAYBE, PREDICTED] {
-        assert!(conflict(&job(0, mode), &job(0, PREDICTED)));
-        assert!(conflict(&job(0, PREDICTED), &job(0, mode)));
-        assert!(!conflict(&job(0, PREDICTED), &job(1, mode)));
+        assert!(clash(&job(0, mode), &job(0, PREDICTED)));
+        assert!(clash(&job(0, PREDICTED), &job(0, mode)));
+        assert!(!clash(&job(0, PREDICTED), &job(1, mode)));
     }
 }
 
@@ -407,6 +408,21 @@ impl Both {
             assert_eq!(self.batch.ask_cell(cell as u32), Ok(height));
             assert_eq!(self.record.ask_cell(cell), (0, height));
         }
+    }
+
+    /// The sort of the conflict of the two jobs that it holds (R24): `engine` says it; of
+    /// both it is seen in whether the second has to wait (R21), and in the first one's chain
+    /// (R22).
+    fn sort(&mut self) -> u32 {
+        assert_eq!(self.call(Call::Seal(0)), 0);
+        let job = |number| self.batch.job(number).unwrap();
+        let sort = conflict(job(0), job(1));
+        let longest = self.batch.choose().unwrap().chain;
+        assert_eq!(u32::from(self.record.choose().3), longest);
+        assert_eq!(longest, if sort == 1 { 2 } else { 1 });
+        let waits = self.step_with(0, 1, 0, 0).0;
+        assert_eq!(waits, if sort == 0 { 0 } else { 15 });
+        sort
     }
 
     /// The chooser names this step, job and chain.
@@ -713,4 +729,67 @@ fn p18_refusals_of_modes() {
     assert_eq!(both.step_with(2, 0, 1520, 1).0, 16);
     assert_eq!(both.step_with(2, 0, 1520, 0).0, 0);
     both.stands(true, [1520]);
+}
+
+/// The sort of two jobs' conflict, each of a kind with these accesses.
+fn p19(earlier: (u8, &[(u8, u8)]), later: (u8, &[(u8, u8)])) -> u32 {
+    let mut both = Both::open(&[1500; 3]);
+    for (kind, used) in [earlier, later] {
+        both.insert_on(kind, 20, used);
+    }
+    both.sort()
+}
+
+#[test]
+fn p19_sorts_of_one_cell() {
+    let sort = |one: u8, other: u8| p19((0, &[(0, one)]), (0, &[(0, other)]));
+    assert_eq!([0, 1, 2, 3].map(|mode| sort(0, mode)), [0, 2, 2, 2]);
+    for earlier in [1, 2, 3] {
+        assert_eq!([0, 1, 2, 3].map(|mode| sort(earlier, mode)), [1; 4]);
+    }
+}
+
+#[test]
+fn p19_sorts_of_several_cells() {
+    let mean: (u8, &[(u8, u8)]) = (5, &[(0, 1), (1, 0), (2, 0)]);
+    let shift: (u8, &[(u8, u8)]) = (2, &[(1, 1)]);
+    assert_eq!(p19(mean, shift), 2);
+    assert_eq!(p19(shift, mean), 1);
+    let one: (u8, &[(u8, u8)]) = (3, &[(0, 2), (1, 0)]);
+    let other: (u8, &[(u8, u8)]) = (3, &[(1, 2), (0, 0)]);
+    assert_eq!(p19(one, other), 1);
+}
+
+/// P20's batch, sealed, with guessing off.
+fn p20() -> Both {
+    let mut both = Both::open(&[1500; 7]);
+    both.insert_on(5, 0, &[(0, 1), (1, 0), (2, 0)]);
+    both.insert_on(2, 5, &[(1, 1)]);
+    both.insert_on(3, 1000, &[(3, 2), (4, 0)]);
+    both.insert_on(4, 1400, &[(5, 2)]);
+    both.insert_on(4, 1400, &[(6, 2)]);
+    assert_eq!(both.call(Call::Seal(0)), 0);
+    both
+}
+
+#[test]
+fn p20_what_the_chooser_prefers() {
+    let mut both = p20();
+    for job in [3, 4, 2, 0] {
+        both.chooses(0, job, 1);
+        assert_eq!(both.step(0, usize::from(job)), 0);
+    }
+    assert_eq!(both.batch.choose(), Err(19));
+    assert_eq!(both.record.choose(), (19, 0, 0, 0));
+    assert_eq!(both.step(2, 0), 0);
+    both.chooses(0, 1, 1);
+}
+
+#[test]
+fn p20_a_longer_chain() {
+    let mut both = p20();
+    both.insert_on(2, 5, &[(0, 1)]);
+    both.chooses(0, 0, 2);
+    assert_eq!(both.step(0, 0), 0);
+    both.chooses(0, 3, 1);
 }

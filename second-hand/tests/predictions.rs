@@ -225,7 +225,7 @@ fn kept_guesses() {
     }
 }
 
-/// R20, R21: a predicted write holds others up, and is held up itself, as a write is.
+/// R20, R21, R24: a predicted write holds others up, and is held up itself, as a write is.
 #[test]
 fn conflicts() {
     for (one, other) in (0..4).flat_map(|one| (0..4).map(move |other| (one, other))) {
@@ -235,7 +235,8 @@ fn conflicts() {
         let answer = worked.clone().step(0, 1, [0; 4], 0).0;
         assert_eq!(answer, due, "{one} and {other}");
         assert_eq!(worked.ledger.is_ready(1), !clash);
-        let chain = if clash { 2 } else { 1 };
+        // R24: a height passes only from what may write it.
+        let chain = if one != READ { 2 } else { 1 };
         assert_eq!(worked.record.choose(), (0, 0, 0, chain));
         assert_eq!(worked.batch.choose().unwrap().chain, u32::from(chain));
         // R114: a job that is ready is not guessed, whatever it predicts.

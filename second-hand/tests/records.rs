@@ -2,8 +2,10 @@
 //! refusal 32 at its limits; states that no list of calls leads to; damaged
 //! records.
 
+use second_hand::choosing::Watch;
 use second_hand::engine::{Access, Batch, GuessState, Report, Settled};
 use second_hand::kinds;
+use second_hand::picks::{pick, Answer, Field};
 use second_hand::record::{BatchAnswer, Job, JobAnswer, Record, Run};
 use second_hand::sets::GuessTold;
 use second_hand::tally::Tally;
@@ -1434,31 +1436,13 @@ fn conflict(one: &Job, other: &Job) -> bool {
     })
 }
 
-fn chain(record: &Record, job: usize, known: &mut [Option<u8>]) -> u8 {
-    if let Some(length) = known[job] {
-        return length;
-    }
-    let later = job + 1..usize::from(record.job_count);
-    let next = later.filter(|&k| conflict(&record.jobs[job], &record.jobs[k]));
-    let length = 1 + next.map(|k| chain(record, k, known)).max().unwrap_or(0);
-    known[job] = Some(length);
-    length
-}
-
-/// What the chooser is to name, from what the steps themselves answer.
-fn choice(record: &Record) -> (u8, u8, u8, u8) {
-    let count = usize::from(record.job_count);
-    let mut known = vec![None; count];
-    for number in [4, 0, 1] {
-        let allowed = (0..count).filter(|&job| step(&mut record.clone(), number, job, 0, 9) == 0);
-        let best = allowed
-            .map(|job| (chain(record, job, &mut known), 255 - job as u8))
-            .max();
-        if let Some((length, place)) = best {
-            return (0, number, 255 - place, length);
-        }
-    }
-    (19, 0, 0, 0)
+/// What the chooser is to answer, by the rules' words, from what the steps themselves
+/// answer; what is met of it is counted.
+fn choice(record: &Record, watch: &mut Watch) -> Answer {
+    let allowed = |number, job| step(&mut record.clone(), number, job, 0, 9) == 0;
+    let field = Field::of(record, allowed);
+    watch.chose(record, field.as_ref());
+    pick(record, field.as_ref())
 }
 
 /// R43 word for word.
@@ -1614,6 +1598,7 @@ fn damaged_records() {
     let mut in_form = 0;
     let mut accepted = [0; 5];
     let mut four = Four::default();
+    let mut watch = Watch::default();
     for _ in 0..3000 {
         let inserts = 1 + dice.below(10);
         let calls = dice.below(4 * inserts);
@@ -1645,7 +1630,7 @@ fn damaged_records() {
             let named = if unsealed {
                 (10, 0, 0, 0)
             } else {
-                choice(&record)
+                choice(&record, &mut watch)
             };
             assert_eq!(record.choose(), named);
         }
@@ -1654,6 +1639,54 @@ fn damaged_records() {
     assert!(accepted.iter().all(|&times| times > 80), "{accepted:?}");
     println!("damaged, four accesses: {four:?}");
     assert!(four.least() > 10, "{four:?}");
+    println!("damaged, {} choices:", watch.choices);
+    come_up(watch.wrong_lines(), 20);
+    assert!(watch.through_settled > 20, "{}", watch.through_settled);
+}
+
+/// Prints the lines. Each came up at least so often.
+fn come_up(lines: Vec<(String, u64)>, least: u64) {
+    for (what, times) in &lines {
+        println!("  {what}: {times}");
+    }
+    assert!(lines.iter().all(|&(_, times)| times >= least), "{lines:?}");
+}
+
+/// The record with many jobs not settled, so that several steps are allowed; sometimes
+/// with nothing but guesses to start.
+fn many_open(dice: &mut Dice, mut record: Record) -> Record {
+    let held = usize::from(record.job_count);
+    let some = dice.below(held as u64 + 1) as usize;
+    record.committed[some..held].fill(0);
+    if dice.one_in(3) {
+        for job in 0..held {
+            match answers(&record, job) {
+                [0, ..] => record.running[job] = 1,
+                [.., 0] => record.phase[job] = 3,
+                _ if record.running[job] == 0 => record.phase[job] = 0,
+                _ => {}
+            }
+        }
+    }
+    record
+}
+
+/// R60 to R62 wherever the jobs may have come to.
+#[test]
+fn chosen_in_any_state() {
+    let mut dice = Dice(0x61_1234_5678);
+    let mut watch = Watch::default();
+    for _ in 0..900 {
+        let sound = one_list(&mut dice, 16, 16, 0, 1000).record;
+        for _ in 0..10 {
+            let any = any_states(&mut dice, &sound);
+            let record = many_open(&mut dice, any);
+            assert_eq!(record.choose(), choice(&record, &mut watch));
+        }
+    }
+    println!("in any state, {} choices:", watch.choices);
+    come_up(watch.choice_lines(), 5);
+    assert!(watch.through_settled > 20, "{}", watch.through_settled);
 }
 
 // ---------------------------------------------------------------------------

@@ -1,6 +1,7 @@
 //! Damaged records: bytes of valid records are changed at random, every entry is called on what comes out (and on the valid
-//! ones), and each answer and the record after it are held against the second hand's (`second_hand::record`). The same on
-//! records in form whose jobs are in any state and were handed anything; and asking guesses that looked past any jobs.
+//! ones), and each answer and the record after it are held against the second hand's (`second_hand::record`); what the chooser
+//! names also against the rules' words (`second_hand::picks`). The same on records in form whose jobs are in any state and were
+//! handed anything; and asking guesses that looked past any jobs. Anything stands in places of jobs that are not in use.
 //! DAMAGED=COUNT sets how many records, SEED=NUMBER which; it prints what was met (`cargo test --test damaged -- --nocapture`).
 
 mod met;
@@ -9,6 +10,8 @@ mod setting;
 mod theirs;
 
 use met::{add, print};
+use second_hand::choosing::Watch;
+use second_hand::picks::{pick, Field};
 use sets::Sets;
 use setting::setting;
 use sorghemi::raw::{sorghemi_step_by_value, JobAnswer, JobSet, Run, TallyAnswer};
@@ -56,10 +59,19 @@ impl Random {
         Report { values: [(); 4].map(|_| self.height()), wrote }
     }
 
-    /// A job on the cells that inserting mostly takes, with any predictions.
+    /// A job on the cells that inserting mostly takes, with any predictions, and anything in places not in use.
     fn job(&mut self, cells: usize) -> Job {
-        let job = self.job_without(cells);
+        let mut job = self.job_without(cells);
+        job.accesses[job.arity as usize..].fill_with(|| self.unused(cells));
         Job { predicted: [(); 4].map(|_| self.height()), ..job }
+    }
+
+    /// What stands in a place not in use: mostly what looks like an access in use.
+    fn unused(&mut self, cells: usize) -> Access {
+        match self.one_in(8) {
+            true => Access { cell: self.below(256) as u8, mode: self.below(256) as u8 },
+            false => Access { cell: self.below(cells) as u8, mode: self.below(4) as u8 },
+        }
     }
 
     /// Of kind 0 with any accesses, or of another kind with its own modes.
@@ -85,7 +97,7 @@ impl Random {
     /// Accesses of any mode, but the fourth is mostly no read, and often the only maybe-write.
     fn accesses(&mut self, cells: [u8; 4]) -> [(u8, Mode); 4] {
         let modes = [Mode::Read, Mode::Write, Mode::MaybeWrite, Mode::PredictedWrite];
-        let lists = [[3, 3, 3, 3], [2, 2, 2, 3], [4, 4, 4, 4]][self.below(3)];
+        let lists = [[3, 3, 3, 3], [2, 2, 2, 3], [4, 4, 4, 4], [4, 4, 4, 4]][self.below(4)];
         let mut place = 0;
         cells.map(|cell| {
             let mode = modes[self.below(lists[place])];
@@ -329,10 +341,11 @@ fn handed_met(answer: &JobAnswer, present: [i32; 4]) -> [bool; HANDED.len()] {
 /// What may be met of the tally of a record that somebody wrote into, and that is still in form. Each has to come up.
 const TALLIES: [&str; 3] = ["out of balance", "in balance, a guess started", "in balance, none started"];
 
-/// How often each entry gave each answer, what was met of jobs with four accesses and of predictions, how guesses were judged:
-/// of jobs that are not settled, and of settled ones; what they had been handed; and what was met of tallies.
+/// How often each entry gave each answer, what was met of choices, of jobs with four accesses and of predictions, how guesses
+/// were judged: of jobs that are not settled, and of settled ones; what they had been handed; and what was met of tallies.
 #[derive(Default)]
 struct Met {
+    watch: Watch,
     answers: BTreeMap<(&'static str, u8), u64>,
     four: [u64; FOUR.len()],
     predicted: [u64; PREDICTED.len()],
@@ -344,6 +357,29 @@ struct Met {
 impl Met {
     fn answer(&mut self, entry: &'static str, answer: u8) {
         *self.answers.entry((entry, answer)).or_default() += 1;
+    }
+
+    /// Asks both hands for a choice. Of a sealed record in form it is that of the rules' words, by what the library accepts on
+    /// copies. What is met is counted where there are few jobs, for it takes long.
+    fn choose(&mut self, both: &Both) {
+        let choice = both.choose();
+        self.answer("choose", choice.refusal);
+        if choice.refusal == 0 || choice.refusal == 19 {
+            let accepts = |step, job| unsafe { sorghemi_step_by_value(both.ours, step, job, Report::default()) }.refusal == 0;
+            let field = Field::of(&both.theirs, accepts);
+            let answer = (choice.refusal, choice.step, choice.job, choice.chain);
+            assert_eq!(answer, pick(&both.theirs, field.as_ref()), "R60 to R62: {field:?} of {:?}", both.ours);
+            if both.ours.job_count < 40 {
+                self.watch.chose(&both.theirs, field.as_ref());
+            }
+        }
+    }
+
+    /// A wrong reading of the rules would have been seen, of settled jobs too.
+    fn choices_came_up(&self) {
+        let lines = self.watch.wrong_lines();
+        assert!(lines.iter().all(|&(_, times)| times > 0), "a wrong reading was never seen: {lines:?}");
+        assert!(self.watch.through_settled > 0, "no chain went through a settled job");
     }
 
     /// Asks both hands for the job.
@@ -441,6 +477,9 @@ impl Met {
 
     fn print(&self) {
         self.print_answers();
+        println!("Choices with fewer than 40 jobs: {}", self.watch.choices);
+        self.watch.choice_lines().iter().for_each(|(what, times)| println!("  {what}: {times}"));
+        println!("  named: its chain would be shorter without settled jobs: {}", self.watch.through_settled);
         println!("Of jobs with four accesses:");
         print(&FOUR, &self.four);
         println!("Records that were written into:");
@@ -462,7 +501,7 @@ fn try_every_entry(record: &Record, random: &mut Random, met: &mut Met) -> Tally
     let cells = record.cell_count.clamp(1, 64) as usize;
     let jobs = record.job_count.clamp(1, 128) as usize;
     let mut both = Both::of(record);
-    met.answer("choose", both.choose().refusal);
+    met.choose(&both);
     let asked = both.ask_batch();
     let held = if asked.refusal == 0 { record.job_count as usize } else { 0 };
     met.answer("ask batch", asked.refusal);
@@ -482,6 +521,7 @@ fn try_every_entry(record: &Record, random: &mut Random, met: &mut Met) -> Tally
         met.step("a further step", &mut both, number, job, random.report());
     }
     met.ask_tally(&both);
+    met.choose(&both);
     // Every job, on the record and on what the steps have left of it.
     for both in [Both::of(record), both] {
         (0..held).for_each(|job| met.ask_job(&both, job));
@@ -530,6 +570,7 @@ fn damaged_records_are_refused_or_answered_soundly() {
         assert!(of(entry, 32) > count / 10 && of(entry, 0) > count / 10, "both sorts of records have to come up");
     }
     met.inserts_came_up();
+    met.choices_came_up();
     assert!(met.four.iter().all(|&times| times > 0), "something never came up with four accesses: {:?}", met.four);
     assert!(met.predicted.iter().all(|&times| times > 0), "no mode or prediction was so: {:?}", met.predicted);
     met.judged_each_way();
@@ -552,6 +593,7 @@ fn jobs_in_any_state_are_answered_soundly() {
     assert_eq!(met.answers.get(&("ask batch", 32)), None, "all are in form");
     assert_eq!(met.answers.get(&("ask tally", 32)), None, "all are in form");
     met.inserts_came_up();
+    met.choices_came_up();
     met.judged_each_way();
     assert!(met.handed.iter().all(|&times| times > 0), "no guess was handed so: {:?}", met.handed);
     assert!(met.tallies.iter().all(|&times| times > 0), "no tally was so: {:?}", met.tallies);
