@@ -74,32 +74,39 @@ pub fn jobs() {
     let reader = job::of_one(5, READ);
     let maybe = job::of_one(5, UNCERTAIN_WRITE);
     let predicting = job::of_one(5, PREDICTED_WRITE);
-    let last = job::last_place(4, job::access(5, WRITE));
-    let unused = job::last_place(3, job::access(5, WRITE));
     of_jobs(b"read and read", reader, reader);
     of_jobs(b"read and maybe-write", reader, maybe);
     of_jobs(b"maybe-write and read", maybe, reader);
-    of_jobs(b"read, and write in place 3 of 4", reader, last);
-    of_jobs(b"write in place 3 of 4, and read", last, reader);
-    of_jobs(b"read, and write in a place not in use", reader, unused);
-    of_jobs(b"write in a place not in use, and read", unused, reader);
-    of_jobs(b"write in place 3 of 4, and the same", last, last);
+    of_jobs(b"maybe-write and maybe-write", maybe, maybe);
+    of_jobs(b"read and predicted write", reader, predicting);
+    of_jobs(b"predicted write and read", predicting, reader);
     of_jobs(
         b"write 5 and write 6",
         job::of_one(5, WRITE),
         job::of_one(6, WRITE),
     );
-    of_jobs(b"maybe-write and maybe-write", maybe, maybe);
-    of_jobs(b"read and predicted write", reader, predicting);
-    of_jobs(b"predicted write and read", predicting, reader);
+}
+
+pub fn places_of_jobs() {
+    lines::heading(b"two jobs: places in use, and two cells in common");
+    let reader = job::of_one(5, READ);
+    let last = job::last_place(4, job::access(5, WRITE));
+    let unused = job::last_place(3, job::access(5, WRITE));
+    of_jobs(b"read, and write in place 3 of 4", reader, last);
+    of_jobs(b"write in place 3 of 4, and read", last, reader);
+    of_jobs(b"read, and write in a place not in use", reader, unused);
+    of_jobs(b"write in a place not in use, and read", unused, reader);
+    of_jobs(b"write in place 3 of 4, and the same", last, last);
+    let first = job::of_two(READ, WRITE);
+    let second = job::of_two(WRITE, READ);
     of_jobs(
         b"read 5 and write 6, then write 5 and read 6",
-        job::of_two(READ, WRITE),
-        job::of_two(WRITE, READ),
+        first,
+        second,
     );
     of_jobs(
         b"write 5 and read 6, then read 5 and write 6",
-        job::of_two(WRITE, READ),
-        job::of_two(READ, WRITE),
+        second,
+        first,
     );
 }

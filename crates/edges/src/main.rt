@@ -12,12 +12,14 @@ fn main() {
     conflict_edges::accesses();
     conflict_edges::places();
     conflict_edges::jobs();
+    conflict_edges::places_of_jobs();
     ready_edges::writers();
     ready_edges::readers();
     pass_edges::flags_of_writers();
     pass_edges::flags_of_counts();
     pass_edges::chains_of_writers();
     pass_edges::chains_of_readers();
+    pass_edges::chains_of_a_writer();
     pass_edges::chains_of_counts();
     admission_edges::counts();
     admission_edges::accesses();

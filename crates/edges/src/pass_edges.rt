@@ -85,16 +85,16 @@ pub fn chains_of_readers() {
     lines::number(b"chain_lengths", b"job 0", lengths[0]);
     lines::number(b"chain_lengths", b"job 126", lengths[126]);
     lines::number(b"chain_lengths", b"job 127", lengths[127]);
-    let fed = passes::chain_lengths(writer_and_readers(), 128);
-    lines::number(b"chain_lengths", b"the writer first, job 0", fed[0]);
-    lines::number(b"chain_lengths", b"the writer first, job 1", fed[1]);
-    lines::number(b"chain_lengths", b"the writer first, job 127", fed[127]);
+}
+
+pub fn chains_of_a_writer() {
+    lines::heading(b"the pass for chains, a writer of one cell and then 127 readers");
+    let lengths = passes::chain_lengths(writer_and_readers(), 128);
+    lines::number(b"chain_lengths", b"job 0", lengths[0]);
+    lines::number(b"chain_lengths", b"job 1", lengths[1]);
+    lines::number(b"chain_lengths", b"job 127", lengths[127]);
     let alone = passes::chain_lengths(writer_and_readers(), 1);
-    lines::number(
-        b"chain_lengths",
-        b"the writer without the readers, job 0",
-        alone[0],
-    );
+    lines::number(b"chain_lengths", b"without the readers, job 0", alone[0]);
 }
 
 pub fn chains_of_counts() {

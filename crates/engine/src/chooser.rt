@@ -131,6 +131,7 @@ impl Batch {
         let mut pick = no_pick();
         let mut j: usize = 0;
         while j < n {
+            // the number alone: a copy of the job here would be loaded whole in every turn
             let arity = jobs[j].arity;
             let how = committed[j];
             let running = outs[j];
