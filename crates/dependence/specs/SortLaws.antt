@@ -36,7 +36,7 @@ module _ (earlier later : Job) where
   pub write-flows : (i : ℕ) → isRead (accessAt earlier i .mode) ≡ false → flowsAt earlier later i ≡ conflictAt earlier later i
   write-flows i w = rw (touches-named (accessAt earlier i) later w, w)
 
-  pub write-keeps : (i : ℕ) → isRead (accessAt earlier i .mode) ≡ false → overwritesAt earlier later i ≡ false
+  write-keeps : (i : ℕ) → isRead (accessAt earlier i .mode) ≡ false → overwritesAt earlier later i ≡ false
   write-keeps i w = rw w (and-false (inUse earlier i))
 
   pub read-overwritten : (i : ℕ) → isRead (accessAt earlier i .mode) ≡ true → overwritesAt earlier later i ≡ conflictAt earlier later i
