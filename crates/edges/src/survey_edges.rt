@@ -32,7 +32,14 @@ pub fn words() {
 }
 
 /// What the survey tells of the first `n` jobs, of which the last of 128 has cells of its own. Their own runs are not out.
-fn told(n: usize, on: bool, cells: Cells, last: Cells, settled: [u8; 128], phases: [u8; 128]) -> [u8; 128]
+fn told(
+    n: usize,
+    on: bool,
+    cells: Cells,
+    last: Cells,
+    settled: [u8; 128],
+    phases: [u8; 128],
+) -> [u8; 128]
     requires { ⌜ n ≤ 128 ⌝ }
 {
     let mut named = [cells.named; 128];
@@ -93,7 +100,9 @@ pub fn readers() {
 }
 
 pub fn runs() {
-    lines::heading(b"the survey of 127 writers of one cell and then a reader, by the guesses of the writers");
+    lines::heading(
+        b"the survey of 127 writers of one cell and then a reader, by the guesses of the writers",
+    );
     let writer = Cells::of(job::of_one(5, WRITE));
     let reader = Cells::of(job::of_one(5, READ));
     let none = [0u8; 128];

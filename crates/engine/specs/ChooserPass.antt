@@ -7,10 +7,10 @@ use mathlib.Core.Logic.{⊎-elim}
 use mathlib.Core.Bool.{Bool, true, false, cond, not, _&&_}
 use mathlib.Core.List.{List}
 use mathlib.Core.Path.{_≡_, refl, sym, ap, _∙_}
-use lib.Dec.{eqb, leb}
-use lib.ListN.{length, getD, set, length-set}
-use lib.Seq.{getD-set-same, getD-set-other}
-use borrow.Author.Tests.{eqb-true, eq-eqb, ne-eqb, leb-false, not-false}
+use lib.Dec.{eqb, leb, ltb}
+use lib.ListN.{length, getD, set, drop, length-set}
+use lib.Seq.{getD-set-same, getD-set-other, getD-drop}
+use borrow.Author.Tests.{eqb-true, eq-eqb, ne-eqb, ltb-true, ltb-false, leb-false, not-false}
 use Rattle.laws.specs.Search.{anyBelow}
 use Rattle.laws.specs.SearchLaws.{any-find, any-fails, if-or, clash, not-true, or-left}
 use Rattle.laws.specs.Fold.{flag, column}
@@ -155,7 +155,7 @@ module _ (b : Batch) where
       flagged true = refl
       flagged false = refl
 
--- The pick, a job a turn, and that it reads nothing else of the jobs: the number of accesses only of those that are allowed.
+-- The pick, a job a turn, and that it reads nothing else of the jobs: chains and accesses only of those that are allowed.
 
 pub pick-none : (allowed : ℕ → Bool) (chain arity : ℕ → ℕ) → noPick ≡ pickBelow 0 allowed chain arity
 unfolding pickBelow
@@ -166,15 +166,16 @@ pub pick-more : (n : ℕ) (allowed : ℕ → Bool) (chain arity : ℕ → ℕ)
 unfolding pickBelow
 pick-more n allowed chain arity = rw add-one
 
-pub pick-same : (n : ℕ) (p q : ℕ → Bool) (f g c d : ℕ → ℕ) → ((j : ℕ) → j < n → p j ≡ q j) → ((j : ℕ) → j < n → f j ≡ g j)
-    → ((j : ℕ) → j < n → q j ≡ true → c j ≡ d j) → pickBelow n p f c ≡ pickBelow n q g d
+pub pick-same : (n : ℕ) (p q : ℕ → Bool) (f g c d : ℕ → ℕ) → ((j : ℕ) → j < n → p j ≡ q j)
+    → ((j : ℕ) → j < n → q j ≡ true → f j ≡ g j) → ((j : ℕ) → j < n → q j ≡ true → c j ≡ d j)
+    → pickBelow n p f c ≡ pickBelow n q g d
 unfolding pickBelow
 pick-same zero p q f g c d h k l = refl
 pick-same (suc n) p q f g c d h k l =
     let before =
-    pick-same n p q f g c d (λ j i. h j (omega arith)) (λ j i. k j (omega arith)) (λ j i t. l j (omega arith) t) in
-    rw (before, h n (omega arith), k n (omega arith))
-    (if-or (q n) (λ t. rw (l n (omega arith) t)) (λ e. rw e))
+    pick-same n p q f g c d (λ j i. h j (omega arith)) (λ j i t. k j (omega arith) t) (λ j i t. l j (omega arith) t) in
+    rw (before, h n (omega arith))
+    (if-or (q n) (λ t. rw (k n (omega arith) t, l n (omega arith) t)) (λ e. rw e))
 
 -- The step looked for, as one more than its number: 4, else 0, else 1.
 abbrev pub soughtOf : Seen → ℕ
@@ -204,7 +205,7 @@ module _ (b : Batch) (step : ℕ → ℕ) (number : ℕ) (call : ℕ → Call) (
   told-pick : pickBelow (b .«job_count») isTold (chainAt b) (arityAt b) ≡ pickFor b call
   told-pick =
       pick-same (b .«job_count») isTold (λ j. allows (snapshotOf b) (call j)) (chainAt b) (chainAt b) (arityAt b) (arityAt b)
-      names (λ j h. refl) (λ j h t. refl)
+      names (λ j h t. refl) (λ j h t. refl)
 
 module _ (b : Batch) (form : inForm b ≡ true) (closed : eqb (b .sealed) 0 ≡ false) (step : ℕ → ℕ)
     (commits : Names b step 5 commit) (starts : Names b step 1 startOwn) (guesses : Names b step 2 startSpeculation) where
@@ -273,18 +274,36 @@ module _ (b : Batch) (form : inForm b ≡ true) (closed : eqb (b .sealed) 0 ≡ 
       if-or (openAt b j) (λ e. e)
       (λ e. clash (eq-eqb sought 0 (sym (eqb-true 0 sought (rw e at t)))) some)
 
-  pub choice-some : (chains : List ℕ) (pick : Pick) → eqb (soughtOf seen) 0 ≡ false
-      → chains ≡ column 128 (b .«job_count») (chainLengthAt (b .jobs) (b .«job_count»)) 0
+  -- Its chain is one of those computed: no step is told of a job before the first.
+  told-chain : (sought first : ℕ) (chains : List ℕ)
+      → anyBelow first (λ j. eqb (getD allowed j 0) sought) ≡ false
+      → drop first chains ≡ drop first (column 128 (b .«job_count») (chainLengthAt (b .jobs) (b .«job_count»)) 0)
+      → (j : ℕ) → j < b .«job_count» → eqb (stepAt j) sought ≡ true → getD chains j 0 ≡ chainAt b j
+  told-chain sought first chains none e j h t =
+      if-or (ltb j first)
+      (λ l.
+      clash (ap (λ (step : ℕ). eqb step sought) (surveyed .told j h) ∙ t)
+      (any-fails first j (λ j. eqb (getD allowed j 0) sought) none (ltb-true j first l)))
+      (λ l.
+      let place : first + (j - first) ≡ j = omega (arith, ltb-false j first l) in
+      rw place at
+      (sym (getD-drop first chains (j - first) 0)
+      ∙ ap (λ (rest : List ℕ). getD rest (j - first) 0) e
+      ∙ getD-drop first (column 128 (b .«job_count») (chainLengthAt (b .jobs) (b .«job_count»)) 0) (j - first) 0)
+      ∙ column-at 128 (b .«job_count») j (chainLengthAt (b .jobs) (b .«job_count»)) 0 0 h (omega (arith, form-counts b form .few-jobs)))
+
+  pub choice-some : (first : ℕ) (chains : List ℕ) (pick : Pick) → eqb (soughtOf seen) 0 ≡ false
+      → anyBelow first (λ j. eqb (getD allowed j 0) (soughtOf seen)) ≡ false
+      → drop first chains ≡ drop first (column 128 (b .«job_count») (chainLengthAt (b .jobs) (b .«job_count»)) 0)
       → pick
       ≡ pickBelow (b .«job_count») (λ j. eqb (getD allowed j 0) (soughtOf seen)) (λ j. getD chains j 0) (λ j. getD arities j 0)
       → named (soughtOf seen - 1) pick ≡ chosen b
-  choice-some chains pick some e f =
-      let n = b .«job_count» in
+  choice-some first chains pick some none e f =
       ap (named (soughtOf seen - 1))
       (f
-      ∙ pick-same n (λ j. eqb (getD allowed j 0) (soughtOf seen)) (λ j. eqb (stepAt j) (soughtOf seen)) (λ j. getD chains j 0) (chainAt b)
-      (λ j. getD arities j 0) (arityAt b)
+      ∙ pick-same (b .«job_count») (λ j. eqb (getD allowed j 0) (soughtOf seen)) (λ j. eqb (stepAt j) (soughtOf seen))
+      (λ j. getD chains j 0) (chainAt b) (λ j. getD arities j 0) (arityAt b)
       (λ j h. ap (λ (step : ℕ). eqb step (soughtOf seen)) (surveyed .told j h))
-      (λ j h. rw e (column-at 128 n j (chainLengthAt (b .jobs) n) 0 0 h (omega (arith, form-counts b form .few-jobs))))
+      (told-chain (soughtOf seen) first chains none e)
       (λ j h t. all .counts .at j h (told-open (soughtOf seen) j some t)))
       ∙ rw some at choice

@@ -1,9 +1,11 @@
 //! The chooser: which step to take next, and on which job.
 
 ghost use mathlib.Core.Path.{_≡_};
+ghost use mathlib.Core.Bool.{false};
 ghost use Prim.Native.Nat.{_≤_};
 ghost use lib.Dec.{eqb};
 ghost use lib.ListN.{getD};
+ghost use Rattle.laws.specs.Search.{anyBelow};
 ghost use Rattle.engine.specs.Chooser.{better, noPick, pickBelow, refused, named, chosen};
 ghost use Rattle.engine.specs.ChooserPass.{soughtOf};
 use crate::Batch;
@@ -86,6 +88,22 @@ fn sought(seen: Seen) -> u8
         return 2;
     }
     0
+}
+
+/// The first of the first `n` jobs on which the step is allowed, given as one more than its number: chains before it are not
+/// asked for. `n` where there is none.
+fn first_for(step: u8, n: usize, allowed: &[u8; 128]) -> usize
+    requires { ⌜ n ≤ 128 ⌝ }
+    ensures { λ r. ⌜ anyBelow r (λ j. eqb (getD (now (allowed .entry)) j 0) step) ≡ false ⌝ }
+{
+    let mut j: usize = 0;
+    while j < n {
+        if allowed[j] == step {
+            return j;
+        }
+        j += 1;
+    }
+    n
 }
 
 /// The pick among the first `n` jobs on which the step is allowed, given as one more than its number.
@@ -171,8 +189,9 @@ impl Batch {
             if step == 0 {
                 return refused(19);
             }
+            let first = first_for(step, n, &allowed);
             let jobs = self.jobs;
-            let chains = passes::chain_lengths(jobs, n);
+            let chains = passes::chain_lengths_from(jobs, n, first);
             let pick = pick_for(step, n, &allowed, &chains, &arities);
             return named(step - 1, pick);
         }

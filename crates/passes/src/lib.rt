@@ -3,6 +3,7 @@
 
 ghost use mathlib.Core.Path.{_≡_};
 ghost use Prim.Native.Nat.{_<_, max, min};
+ghost use lib.ListN.{drop};
 ghost use Rattle.laws.specs.Fold.{column};
 ghost use Rattle.dependence.specs.Job.{accessAt, ByteCells};
 ghost use Rattle.passes.specs.Chain.{chainLengthAt};
@@ -84,15 +85,16 @@ fn held(job_count: usize) -> usize
     128
 }
 
-/// For each of the first `job_count` jobs the length of the longest chain of later jobs, each naming a cell that the one
-/// before it may write, the job itself counted; 0 in the places after them.
-pub fn chain_lengths(jobs: [Job; 128], job_count: usize) -> [u8; 128]
-    ensures { λ r. ⌜ r ≡ column 128 «job_count» (chainLengthAt jobs «job_count») 0 ⌝ }
+/// For each of the first `job_count` jobs from job `first` on the length of the longest chain of later jobs, each naming a cell
+/// that the one before it may write, the job itself counted; 0 in the places after them. The places before are left at 0: a
+/// chain needs the later jobs alone.
+pub fn chain_lengths_from(jobs: [Job; 128], job_count: usize, first: usize) -> [u8; 128]
+    ensures { λ r. ⌜ drop first r ≡ drop first (column 128 «job_count» (chainLengthAt jobs «job_count») 0) ⌝ }
 {
     let mut lengths = [0u8; 128];
     let mut named = [0u8; 256];
     let mut k = held(job_count);
-    while 0 < k {
+    while first < k {
         let j = k - 1;
         let job = jobs[j];
         let next = met_by(&named, job);
@@ -102,4 +104,11 @@ pub fn chain_lengths(jobs: [Job; 128], job_count: usize) -> [u8; 128]
         k = j;
     }
     lengths
+}
+
+/// The same for all of them.
+pub fn chain_lengths(jobs: [Job; 128], job_count: usize) -> [u8; 128]
+    ensures { λ r. ⌜ r ≡ column 128 «job_count» (chainLengthAt jobs «job_count») 0 ⌝ }
+{
+    chain_lengths_from(jobs, job_count, 0)
 }

@@ -170,8 +170,12 @@ returns-2 c =
     (rw e at (l .inv .3)) _ (sought .before .survey .result) (sought .before .survey .ensures)
     (sym (sought .sought .ensures) ∙ c .before .if5 .taken)
 
-chain-lengths-requires : tie.Need-chain-lengths-requires Inv-loop μ-loop
-chain-lengths-requires c κs = search needs
+first-for-requires : tie.Need-first-for-requires Inv-loop μ-loop
+first-for-requires c κs =
+    c .before .before .before .before .before .before .before .before .before .before .before .before .before .before .before .loop .inv .1
+
+chain-lengths-from-requires : tie.Need-chain-lengths-from-requires Inv-loop μ-loop
+chain-lengths-from-requires c κs = search needs
 
 pick-for-requires : tie.Need-pick-for-requires Inv-loop μ-loop
 pick-for-requires c κs = search needs
@@ -185,7 +189,8 @@ named-requires c κs = search needs
 returns-3 : tie.Need-returns-3 Inv-loop μ-loop
 returns-3 c =
     let chains = c .before .before .before .before .before in
-    let some = chains .before .before in
+    let first = chains .before .before in
+    let some = first .before .before in
     let sought = some .before in
     let ended = sought .before .before .before .before .before .before .before .before .before .before .before .before in
     let at = ended .before in
@@ -197,9 +202,9 @@ returns-3 c =
     c .named .ensures
     ∙ rw step
     (choice-some b form (ne-eqb _ _ (at .before .if2 .left)) (l .names) (l .written) (l .sure) (l .back) (l .arities) (l .stale)
-    (rw e at (l .inv .3)) _ (sought .before .survey .result) (sought .before .survey .ensures) (chains .chain-lengths .result)
-    (c .before .pick-for .result) (rw (← step) (ne-eqb _ _ (some .if5 .left))) (chains .chain-lengths .ensures)
-    (rw step at (c .before .pick-for .ensures)))
+    (rw e at (l .inv .3)) _ (sought .before .survey .result) (sought .before .survey .ensures) (first .first-for .result)
+    (chains .chain-lengths-from .result) (c .before .pick-for .result) (rw (← step) (ne-eqb _ _ (some .if5 .left)))
+    (rw step at (first .first-for .ensures)) (chains .chain-lengths-from .ensures) (rw step at (c .before .pick-for .ensures)))
 
 refused-requires-3 : tie.Need-refused-requires-3 Inv-loop μ-loop
 refused-requires-3 c κs = search needs
@@ -250,7 +255,8 @@ choose-spec =
     sought-requires
     refused-requires-2
     returns-2
-    chain-lengths-requires
+    first-for-requires
+    chain-lengths-from-requires
     pick-for-requires
     sub-named
     named-requires

@@ -1,20 +1,20 @@
--- `chain_lengths` meets its contract: the pass of specs/ChainPass.antt, a job a turn from the last one back.
+-- `chain_lengths_from` meets its contract: the pass of specs/ChainPass.antt, a job a turn from the last one back.
 use native.Mathlib.Omega.{arith}
 use Prim.Native.Nat.{_≤_, _+_, _-_, suc, min}
 use native.Mathlib.Numerals.{add-one}
 use mathlib.Core.Path.{_≡_, ap, _∙_}
 use lib.ListN.{length}
 use borrow.Author.Needs.{needs}
-use Rattle.passes.specs.ChainPass.{ChainPass, chain-start, chain-short, chain-step}
-use Rattle.passes.proofs.chain_lengths.Statement.{statement}
-use Rattle.passes.proofs.chain_lengths.Tie as tie
+use Rattle.passes.specs.ChainPass.{ChainPass, chain-start, chain-short, chain-step, chain-end}
+use Rattle.passes.proofs.chain_lengths_from.Statement.{statement}
+use Rattle.passes.proofs.chain_lengths_from.Tie as tie
 
 -- the jobs from k on are done
 abbrev Inv-loop : tie.InvT-loop
-Inv-loop job-count jobs lengths₀ named₀ k₀ lengths named k = (k ≤ min job-count 128) × ChainPass jobs job-count k lengths named
+Inv-loop job-count first jobs lengths₀ named₀ k₀ lengths named k = (k ≤ min job-count 128) × ChainPass jobs job-count k lengths named
 
 abbrev μ-loop : tie.MeasureT-loop
-μ-loop job-count jobs lengths₀ named₀ k₀ lengths named k = k
+μ-loop job-count first jobs lengths₀ named₀ k₀ lengths named k = k
 
 held-requires : tie.Need-held-requires Inv-loop μ-loop
 held-requires c κs = omega arith
@@ -72,15 +72,15 @@ loop-again c =
           (m .met-by .ensures .1) (rw e at (l .inv .1)) (m .met-by .result + 1) (add-one _ ∙ ap suc (m .met-by .ensures .0))),
     )
 
--- all are
+-- all from the first one on are
 returns : tie.Need-returns Inv-loop μ-loop
 returns c =
-    let e : c .before .loop .k ≡ 0 = omega arith in
-    let pass = rw e at (c .before .loop .inv .1) in
-    pass .done
+    let l = c .before .loop in
+    let a = c .before .before .before .args in
+    chain-end (a .t1) (a .job-count) (l .k) (a .first) (l .lengths) (l .named) (l .inv .1) (omega arith)
 
-pub chain-lengths-spec : {M : Type 1} → statement M
-chain-lengths-spec =
+pub chain-lengths-from-spec : {M : Type 1} → statement M
+chain-lengths-from-spec =
     tie.close
     (tie.spec
     Inv-loop
