@@ -7,6 +7,8 @@ pub mod OpeningLaws
 pub mod Steps
 pub mod Perform
 pub mod ByNumber
+pub mod Change
+pub mod ChangeLaws
 pub mod Ask
 pub mod AskLaws
 pub mod StepLaws

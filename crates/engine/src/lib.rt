@@ -7,6 +7,7 @@ mod ask;
 mod by_number;
 mod chooser;
 mod form;
+mod in_place;
 mod opening;
 pub mod speculation;
 mod steps;

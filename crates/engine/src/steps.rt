@@ -85,7 +85,7 @@ fn first_of_four(
 }
 
 /// A run that was handed the values, before any report.
-fn new_run(handed: [i32; 4], sources: [u8; 4], bypassed: JobSet) -> Run
+pub(crate) fn new_run(handed: [i32; 4], sources: [u8; 4], bypassed: JobSet) -> Run
     ensures { λ r. ⌜ r ≡ newRun handed sources bypassed ⌝ }
 {
     Run {
@@ -98,7 +98,7 @@ fn new_run(handed: [i32; 4], sources: [u8; 4], bypassed: JobSet) -> Run
 }
 
 /// The phase of a speculative run that is thrown away, if there was one.
-fn discarded_phase(phase: u8) -> u8
+pub(crate) fn discarded_phase(phase: u8) -> u8
     ensures { λ r. ⌜ r ≡ discardedPhase phase ⌝ }
 {
     if phase == 0 {
@@ -135,7 +135,7 @@ pub(crate) fn start_speculation_refusal(
 }
 
 /// Why a report is not taken, whichever run it is on, or 0: that run is not out, or the mark is refused.
-fn report_refusal(out: bool, job: Job, wrote: u8) -> u8
+pub(crate) fn report_refusal(out: bool, job: Job, wrote: u8) -> u8
     ensures { λ r. ⌜ r ≡ firstOf (when (not out) 13 ∷ when (wroteRefused job wrote) 16 ∷ []) ⌝ }
 {
     let refused = runs::wrote_refused(job, wrote);
@@ -152,7 +152,7 @@ pub(crate) fn commit_refusal(how: u8, phase: u8, ready: bool, invalid: bool) -> 
 }
 
 /// The run with a report.
-fn reported_run(job: Job, run: Run, values: [i32; 4], wrote: u8) -> Run
+pub(crate) fn reported_run(job: Job, run: Run, values: [i32; 4], wrote: u8) -> Run
     ensures { λ r. ⌜ r ≡ reportedRun job run values wrote ⌝ }
 {
     let handed = run.handed;
@@ -241,7 +241,7 @@ impl Batch {
     }
 
     /// What the speculative run is handed: at each place forwarded from its source, or what is presumed there.
-    fn forwarded_values(self, job: Job, presumed: [i32; 4], sources: [u8; 4]) -> [i32; 4]
+    pub(crate) fn forwarded_values(self, job: Job, presumed: [i32; 4], sources: [u8; 4]) -> [i32; 4]
         requires { ⌜ SourcesHeld sources ⌝ }
         ensures { λ r. ⌜ r ≡ four (forwardedAt self job presumed sources) ⌝ }
     {

@@ -1,0 +1,212 @@
+//! The steps for a record that a host lends: one body that checks the record, decides and changes it. A helper that took the
+//! record by value would copy it, so the loops of the check stand here once more, and helpers are handed one job, one run or
+//! a column.
+
+ghost use mathlib.Core.Path.{_≡_};
+ghost use mathlib.Core.Bool.{not, _&&_};
+ghost use Prim.Native.Nat.{_<_};
+ghost use Rattle.dependence.specs.Ready.{waitsFor};
+ghost use Rattle.engine.specs.Change.{ownReport, speculationReport, ownStart, commitChange, speculationStart, changeFor};
+use crate::Batch;
+use crate::Run;
+use crate::speculation::is_invalid;
+use crate::speculation::unusable_any;
+use crate::steps::commit_refusal;
+use crate::steps::discarded_phase;
+use crate::steps::new_run;
+use crate::steps::report_refusal;
+use crate::steps::reported_run;
+use crate::steps::start_own_refusal;
+use crate::steps::start_speculation_refusal;
+use dependence::Job;
+use jobset::JobSet;
+
+/// How a job stands: how it was committed, whether its own run is out, and the phase of its speculative one.
+struct Standing {
+    committed: u8,
+    running: u8,
+    phase: u8,
+}
+
+/// What a step comes to: the number of its refusal, or 0 and then the values handed out, the cells, and the run and the
+/// standing of its job.
+struct Change {
+    refusal: u8,
+    handed: [i32; 4],
+    cells: [i32; 64],
+    run: Run,
+    now: Standing,
+}
+
+/// Step 2 on a job that stands so.
+fn own_report(job: Job, run: Run, now: Standing, cells: [i32; 64], values: [i32; 4], wrote: u8) -> Change
+    ensures { λ r. ⌜ r ≡ ownReport job run now cells values wrote ⌝ }
+{
+    let out = now.running != 0;
+    let refusal = report_refusal(out, job, wrote);
+    let told = reported_run(job, run, values, wrote);
+    let reported = told.reported;
+    let written = runs::write_back(job, reported, wrote, cells);
+    Change {
+        refusal,
+        handed: [0; 4],
+        cells: written,
+        run: told,
+        now: Standing {
+            committed: 1,
+            running: 0,
+            phase: now.phase,
+        },
+    }
+}
+
+/// Step 3.
+fn speculation_report(job: Job, run: Run, now: Standing, cells: [i32; 64], values: [i32; 4], wrote: u8) -> Change
+    ensures { λ r. ⌜ r ≡ speculationReport job run now cells values wrote ⌝ }
+{
+    let out = now.phase == 1;
+    let refusal = report_refusal(out, job, wrote);
+    let told = reported_run(job, run, values, wrote);
+    Change {
+        refusal,
+        handed: [0; 4],
+        cells,
+        run: told,
+        now: Standing {
+            committed: now.committed,
+            running: now.running,
+            phase: 2,
+        },
+    }
+}
+
+/// Step 0 on a job that is ready or not.
+fn own_start(job: Job, run: Run, now: Standing, cells: [i32; 64], ready: bool) -> Change
+    ensures { λ r. ⌜ r ≡ ownStart job run now cells ready ⌝ }
+{
+    let invalid = is_invalid(ready, now.phase, job, run, cells);
+    let refusal = start_own_refusal(now.committed, now.running, now.phase, ready, invalid);
+    let handed = runs::present_values(job, cells);
+    let fresh = new_run(handed, [0; 4], JobSet { low: 0, high: 0 });
+    let left = discarded_phase(now.phase);
+    Change {
+        refusal,
+        handed,
+        cells,
+        run: fresh,
+        now: Standing {
+            committed: 0,
+            running: 1,
+            phase: left,
+        },
+    }
+}
+
+/// Step 4.
+fn commit_change(job: Job, run: Run, now: Standing, cells: [i32; 64], ready: bool) -> Change
+    ensures { λ r. ⌜ r ≡ commitChange job run now cells ready ⌝ }
+{
+    let invalid = is_invalid(ready, now.phase, job, run, cells);
+    let refusal = commit_refusal(now.committed, now.phase, ready, invalid);
+    let reported = run.reported;
+    let written = runs::write_back(job, reported, run.wrote, cells);
+    Change {
+        refusal,
+        handed: [0; 4],
+        cells: written,
+        run,
+        now: Standing {
+            committed: 2,
+            running: now.running,
+            phase: 2,
+        },
+    }
+}
+
+/// Step 1, with where the values come from.
+fn speculation_start(
+    on: bool,
+    now: Standing,
+    cells: [i32; 64],
+    ready: bool,
+    missing: bool,
+    run: Run,
+) -> Change
+    ensures { λ r. ⌜ r ≡ speculationStart on now cells ready missing run ⌝ }
+{
+    let refusal = start_speculation_refusal(on, now.committed, now.running, now.phase, ready, missing);
+    let handed = run.handed;
+    Change {
+        refusal,
+        handed,
+        cells,
+        run,
+        now: Standing {
+            committed: 0,
+            running: 0,
+            phase: 1,
+        },
+    }
+}
+
+/// Whether the job is ready as far as the earlier one goes too.
+fn stays_ready(ready: bool, job: Job, earlier: Job, how: u8) -> bool
+    ensures { λ r. ⌜ r ≡ (ready && not (waitsFor job earlier how)) ⌝ }
+{
+    if ready {
+        let waits = job.waits_for(earlier, how);
+        return !waits;
+    }
+    false
+}
+
+impl Batch {
+    /// What the step with the number comes to on job `j` of a sealed batch in form.
+    fn change(self, number: u8, j: usize, values: [i32; 4], wrote: u8) -> Change
+        requires { ⌜ j < 128 ⌝ }
+        ensures { λ r. ⌜ r ≡ changeFor self number j values wrote ⌝ }
+    {
+        let job = self.jobs[j];
+        let run = self.runs[j];
+        let cells = self.cells;
+        let committed = self.committed[j];
+        let running = self.running[j];
+        let phase = self.phase[j];
+        let now = Standing {
+            committed,
+            running,
+            phase,
+        };
+        if number == 2 {
+            return own_report(job, run, now, cells, values, wrote);
+        }
+        if number == 3 {
+            return speculation_report(job, run, now, cells, values, wrote);
+        }
+        let mut ready = true;
+        let mut i: usize = 0;
+        while i < j {
+            let earlier = self.jobs[i];
+            let how = self.committed[i];
+            let still = stays_ready(ready, job, earlier, how);
+            ready = still;
+            i += 1;
+        }
+        if number == 0 {
+            return own_start(job, run, now, cells, ready);
+        }
+        if number == 4 {
+            return commit_change(job, run, now, cells, ready);
+        }
+        let jobs = self.jobs;
+        let settled = self.committed;
+        let sources = walk::sources(jobs, settled, j);
+        let missing = unusable_any(sources, &self.phase);
+        let presumed = runs::presumed_values(job, cells);
+        let handed = self.forwarded_values(job, presumed, sources);
+        let bypassed = walk::bypassed_by(jobs, settled, j);
+        let guess = new_run(handed, sources, bypassed);
+        let on = self.speculating != 0;
+        speculation_start(on, now, cells, ready, missing, guess)
+    }
+}
