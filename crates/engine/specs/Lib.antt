@@ -1,6 +1,7 @@
 pub mod Record
 pub mod Form
 pub mod FormLaws
+pub mod FormPass
 pub mod Forwarding
 pub mod Opening
 pub mod OpeningLaws
