@@ -6,11 +6,13 @@ use native.Mathlib.Numerals.{add-one}
 use mathlib.Core.Bool.{Bool, true, false, cond, not, _&&_, _||_}
 use mathlib.Core.List.{List}
 use mathlib.Core.Path.{_≡_, refl, sym, _∙_, ap}
-use lib.Dec.{eqb}
+use lib.Dec.{eqb, ltb}
+use borrow.Author.Tests.{ltb-true, ltb-false, le-leb, lt-leb, ne-eqb}
 use lib.IntN.{ℤ, pos}
 use lib.ListN.{replicate}
 use Rattle.laws.specs.Refusal.{firstOf}
 use Rattle.laws.specs.Search.{anyBelow}
+use Rattle.laws.specs.SearchLaws.{if-or}
 use Rattle.dependence.specs.declared.Job.{Job}
 use Rattle.dependence.specs.Job.{jobAt}
 use Rattle.dependence.specs.Ready.{blocks, ready}
@@ -22,11 +24,12 @@ use Rattle.engine.specs.declared.Started.{Started}
 use Rattle.engine.specs.declared.Run.{Run}
 use Rattle.engine.specs.declared.in_place.Change.{Change}
 use Rattle.engine.specs.Record.{runAt, snapshotOf}
+use Rattle.engine.specs.Form.{inForm}
 use Rattle.engine.specs.Opening.{answer}
 use Rattle.engine.specs.Steps.{stepRefusal, start, startedOwn, startedSpeculation, reportedOwn, reportedSpeculation, committedBy}
-use Rattle.engine.specs.StepLaws.{step-then, ready-is}
+use Rattle.engine.specs.StepLaws.{step-early, step-then, ready-is}
 use Rattle.engine.specs.InvalidRun.{invalid-is}
-use Rattle.engine.specs.ByNumber.{withoutValues, stepped}
+use Rattle.engine.specs.ByNumber.{withoutValues, noSuchStep, stepped}
 use Rattle.engine.specs.Change.{ownStart, commitChange, speculationStart, standingAt, guessAt, changeFor, changed}
 
 -- Readiness, seen one earlier job more.
@@ -117,3 +120,59 @@ step-changes b (suc (suc zero)) j values wrote h early = report-own-is b j value
 step-changes b (suc (suc (suc zero))) j values wrote h early = report-speculation-is b j values wrote early
 step-changes b (suc (suc (suc (suc zero)))) j values wrote h early = commit-is b j values wrote early
 step-changes b (suc (suc (suc (suc (suc n))))) j values wrote h early = absurd (omega (arith, h))
+
+-- What is refused before a job is looked at: the number of the refusal, and nothing else.
+abbrev pub refusedWith : Batch → ℕ → Started
+refusedWith b refusal = record { refusal = refusal; handed = replicate 4 (pos 0); batch = b }
+
+early-refused : (b : Batch) (number j : ℕ) (values : List ℤ) (wrote : ℕ) → number < 5 → eqb (stepRefusal b j) 0 ≡ false
+    → stepped b number j values wrote ≡ refusedWith b (stepRefusal b j)
+unfolding stepped startedOwn startedSpeculation reportedOwn reportedSpeculation committedBy
+early-refused b zero j values wrote h e = rw (step-early b j _ e, e)
+early-refused b (suc zero) j values wrote h e = rw (step-early b j _ e, e)
+early-refused b (suc (suc zero)) j values wrote h e = rw (step-early b j _ e, e)
+early-refused b (suc (suc (suc zero))) j values wrote h e = rw (step-early b j _ e, e)
+early-refused b (suc (suc (suc (suc zero)))) j values wrote h e = rw (step-early b j _ e, e)
+early-refused b (suc (suc (suc (suc (suc n))))) j values wrote h e = absurd (omega (arith, h))
+
+-- A number above 4.
+past-the-steps : (b : Batch) (number j : ℕ) (values : List ℤ) (wrote : ℕ) → 4 < number → stepped b number j values wrote ≡ noSuchStep b
+unfolding stepped
+past-the-steps b number j values wrote h =
+    rw (other 0 (omega arith), other 1 (omega arith), other 2 (omega arith), other 3 (omega arith), other 4 (omega arith))
+  where
+    other : (k : ℕ) → k < 5 → eqb number k ≡ false
+    other k small = ne-eqb number k (λ e. absurd (omega (arith, h, small, e)))
+
+module _ (b : Batch) (number j : ℕ) (values : List ℤ) (wrote : ℕ) where
+  pub out-of-form-refused : inForm b ≡ false → refusedWith b 32 ≡ stepped b number j values wrote
+  out-of-form-refused out =
+      let number-32 : stepRefusal b j ≡ 32 = rw out in
+      if-or (ltb 4 number)
+      (λ t. sym (past-the-steps b number j values wrote (ltb-true 4 number t) ∙ rw out))
+      (λ f.
+      let small = ltb-false 4 number f in
+      sym (early-refused b number j values wrote (omega (arith, small)) (rw number-32) ∙ ap (refusedWith b) number-32))
+
+  pub no-step-refused : inForm b ≡ true → 4 < number → refusedWith b 21 ≡ stepped b number j values wrote
+  no-step-refused form h = sym (past-the-steps b number j values wrote h ∙ rw form)
+
+  pub unsealed-refused : inForm b ≡ true → number ≤ 4 → b .sealed ≡ 0 → refusedWith b 10 ≡ stepped b number j values wrote
+  unfolding firstOf
+  unsealed-refused form h unsealed =
+      let number-10 : stepRefusal b j ≡ 10 = rw (form, unsealed) in
+      sym (early-refused b number j values wrote (omega (arith, h)) (rw number-10) ∙ ap (refusedWith b) number-10)
+
+  pub no-job-refused : inForm b ≡ true → number ≤ 4 → eqb (b .sealed) 0 ≡ false → b .«job_count» ≤ j
+      → refusedWith b 11 ≡ stepped b number j values wrote
+  unfolding firstOf
+  no-job-refused form h sealed none =
+      let number-11 : stepRefusal b j ≡ 11 = rw (form, sealed, le-leb (b .«job_count») j none) in
+      sym (early-refused b number j values wrote (omega (arith, h)) (rw number-11) ∙ ap (refusedWith b) number-11)
+
+  -- What the job is looked at for.
+  pub change-made : inForm b ≡ true → number ≤ 4 → eqb (b .sealed) 0 ≡ false → j < b .«job_count»
+      → stepped b number j values wrote ≡ changed b j (changeFor b number j values wrote)
+  unfolding firstOf
+  change-made form h sealed held =
+      step-changes b number j values wrote (omega (arith, h)) (rw (form, sealed, lt-leb (b .«job_count») j held))

@@ -9,7 +9,7 @@ use lib.Dec.{eqb, ltb}
 use lib.ListN.{getD}
 use borrow.Author.Tests.{ltb-true, ltb-false, lt-ltb, le-ltb}
 use Rattle.laws.specs.Search.{anyBelow}
-use Rattle.laws.specs.SearchLaws.{if-or, or-true, any-find, any-found, any-fails, any-absent}
+use Rattle.laws.specs.SearchLaws.{if-or, or-true, any-find, any-found, any-fails, any-absent, missed}
 use Rattle.dependence.specs.Job.{jobAt}
 use Rattle.admission.specs.Admission.{jobRefusal}
 use Rattle.engine.specs.declared.Run.{Run}
@@ -156,3 +156,9 @@ module _ (b : Batch) where
             below 1 (b .running) (states .running-top) j h,
             below 3 (b .phase) (states .phase-top) j h,
           ) (any-fails (b .«job_count») j (runOutAt b) runs h)
+
+  -- The same as the two loops leave it: all jobs seen, then k of the n runs, and no more to see.
+  pub all-seen : {n k : ℕ} → n ≡ b .«job_count» → StatesIn b → anyBelow n (refusedAt b) ≡ false
+      → k ≤ n → n ≤ k → anyBelow k (runOutAt b) ≡ false → inForm b ≡ true
+  all-seen {n} {k} e states jobs low high runs =
+      passed-in-form states (rw (← e) jobs) (rw (← e) (sym (missed n k (runOutAt b) low high runs)))

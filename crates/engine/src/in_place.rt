@@ -6,9 +6,14 @@ ghost use mathlib.Core.Path.{_≡_};
 ghost use mathlib.Core.Bool.{not, _&&_};
 ghost use Prim.Native.Nat.{_<_};
 ghost use Rattle.dependence.specs.Ready.{waitsFor};
+ghost use Rattle.engine.specs.ByNumber.{stepped};
 ghost use Rattle.engine.specs.Change.{ownReport, speculationReport, ownStart, commitChange, speculationStart, changeFor};
 use crate::Batch;
 use crate::Run;
+use crate::Started;
+use crate::form::counts_out;
+use crate::form::run_out;
+use crate::form::top_of;
 use crate::speculation::is_invalid;
 use crate::speculation::unusable_any;
 use crate::steps::commit_refusal;
@@ -208,5 +213,112 @@ impl Batch {
         let guess = new_run(handed, sources, bypassed);
         let on = self.speculating != 0;
         speculation_start(on, now, cells, ready, missing, guess)
+    }
+    /// R50 as `step` has it, for a record that is lent: what is refused leaves it as it was.
+    pub fn step_in_place(mut self, number: u8, j: usize, values: [i32; 4], wrote: u8) -> Started
+        ensures { λ r. ⌜ r ≡ stepped self number j values wrote ⌝ }
+    {
+        if counts_out(
+            self.cell_count,
+            self.job_count,
+            self.sealed,
+            self.speculating,
+        ) {
+            return Started {
+                refusal: 32,
+                handed: [0; 4],
+                batch: self,
+            };
+        }
+        let n = self.job_count as usize;
+        if 2 < top_of(&self.committed, n) {
+            return Started {
+                refusal: 32,
+                handed: [0; 4],
+                batch: self,
+            };
+        }
+        if 1 < top_of(&self.running, n) {
+            return Started {
+                refusal: 32,
+                handed: [0; 4],
+                batch: self,
+            };
+        }
+        if 3 < top_of(&self.phase, n) {
+            return Started {
+                refusal: 32,
+                handed: [0; 4],
+                batch: self,
+            };
+        }
+        let mut i: usize = 0;
+        while i < n {
+            let job = self.jobs[i];
+            if admission::is_refused(job, self.cell_count) {
+                return Started {
+                    refusal: 32,
+                    handed: [0; 4],
+                    batch: self,
+                };
+            }
+            i += 1;
+        }
+        let mut k: usize = 0;
+        while k < n {
+            let run = self.runs[k];
+            if run_out(run, k) {
+                return Started {
+                    refusal: 32,
+                    handed: [0; 4],
+                    batch: self,
+                };
+            }
+            k += 1;
+        }
+        if 4 < number {
+            return Started {
+                refusal: 21,
+                handed: [0; 4],
+                batch: self,
+            };
+        }
+        if self.sealed == 0 {
+            return Started {
+                refusal: 10,
+                handed: [0; 4],
+                batch: self,
+            };
+        }
+        if n <= j {
+            return Started {
+                refusal: 11,
+                handed: [0; 4],
+                batch: self,
+            };
+        }
+        let change = self.change(number, j, values, wrote);
+        let refusal = change.refusal;
+        if refusal != 0 {
+            return Started {
+                refusal,
+                handed: [0; 4],
+                batch: self,
+            };
+        }
+        let cells = change.cells;
+        let run = change.run;
+        let now = change.now;
+        let handed = change.handed;
+        self.cells = cells;
+        self.runs[j] = run;
+        self.committed[j] = now.committed;
+        self.running[j] = now.running;
+        self.phase[j] = now.phase;
+        Started {
+            refusal: 0,
+            handed,
+            batch: self,
+        }
     }
 }
