@@ -15,6 +15,7 @@ use Rattle.walk.specs.Sources.{setOf}
 use Rattle.rules.specs.Values.{presentValues, storedValues, wroteRefused, writeBack}
 use Rattle.rules.specs.Snapshot.{neverStarted, isOut, isStored, isLive}
 use Rattle.rules.specs.Speculation.{bypassedNow, sourceMissing}
+use Rattle.engine.specs.declared.Report.{Report}
 use Rattle.engine.specs.declared.Run.{Run}
 use Rattle.engine.specs.declared.Batch.{Batch}
 use Rattle.engine.specs.declared.Started.{Started}
@@ -103,15 +104,24 @@ standingAt b j =
 abbrev pub guessAt : Batch → ℕ → Run
 guessAt b j = newRun (speculativeValues b j) (sourcesNow b j) (setOf j (bypassedNow (snapshotOf b) j))
 
--- By its number; any other than 0, 2, 3 and 4 counts as 1.
-unfoldable pub changeFor : Batch → ℕ → ℕ → List ℤ → ℕ → Change
-changeFor b number j values wrote =
-    cond (eqb number 2) (ownReport (jobAt (b .jobs) j) (runAt b j) (standingAt b j) (b .cells) values wrote)
-    (cond (eqb number 3) (speculationReport (jobAt (b .jobs) j) (runAt b j) (standingAt b j) (b .cells) values wrote)
-    (cond (eqb number 0) (ownStart (jobAt (b .jobs) j) (runAt b j) (standingAt b j) (b .cells) (ready (b .jobs) (b .committed) j))
-    (cond (eqb number 4) (commitChange (jobAt (b .jobs) j) (runAt b j) (standingAt b j) (b .cells) (ready (b .jobs) (b .committed) j))
+-- How many of the jobs before job j the step asks about: a report asks nothing of other jobs.
+abbrev pub askedBelow : ℕ → ℕ → ℕ
+askedBelow number j = cond (eqb number 2) 0 (cond (eqb number 3) 0 j)
+
+-- By its number: 0, 2, 3, and any other as 4; and with a guess.
+abbrev pub plainChange : ℕ → Job → Run → Standing → List ℤ → Report → Bool → Change
+plainChange number job run now cells report isReady =
+    cond (eqb number 0) (ownStart job run now cells isReady)
+    (cond (eqb number 2) (ownReport job run now cells (report .values) (report .wrote))
+    (cond (eqb number 3) (speculationReport job run now cells (report .values) (report .wrote))
+    (commitChange job run now cells isReady)))
+
+unfoldable pub changeFor : Batch → ℕ → ℕ → Report → Change
+changeFor b number j report =
+    cond (eqb number 1)
     (speculationStart (not (eqb (b .speculating) 0)) (standingAt b j) (b .cells) (ready (b .jobs) (b .committed) j)
-    (sourceMissing (snapshotOf b) j) (guessAt b j)))))
+    (sourceMissing (snapshotOf b) j) (guessAt b j))
+    (plainChange number (jobAt (b .jobs) j) (runAt b j) (standingAt b j) (b .cells) report (ready (b .jobs) (b .committed) j))
 
 -- The answer: the change made, or refused.
 abbrev pub withChange : Batch → ℕ → Change → Batch

@@ -4,11 +4,15 @@
 
 ghost use mathlib.Core.Path.{_≡_};
 ghost use mathlib.Core.Bool.{not, _&&_};
+ghost use lib.Dec.{eqb};
 ghost use Prim.Native.Nat.{_<_};
 ghost use Rattle.dependence.specs.Ready.{waitsFor};
+ghost use Rattle.rules.specs.Speculation.{sourceMissing};
+ghost use Rattle.engine.specs.Record.{snapshotOf};
 ghost use Rattle.engine.specs.ByNumber.{stepped};
-ghost use Rattle.engine.specs.Change.{ownReport, speculationReport, ownStart, commitChange, speculationStart, changeFor};
+ghost use Rattle.engine.specs.Change.{ownReport, speculationReport, ownStart, commitChange, speculationStart, guessAt, plainChange, askedBelow};
 use crate::Batch;
+use crate::Report;
 use crate::Run;
 use crate::Started;
 use crate::form::counts_out;
@@ -154,6 +158,38 @@ fn speculation_start(
     }
 }
 
+/// What a step other than 1 comes to. Reports ask nothing of the other jobs.
+fn plain_change(
+    number: u8,
+    job: Job,
+    run: Run,
+    now: Standing,
+    cells: [i32; 64],
+    report: Report,
+    ready: bool,
+) -> Change
+    ensures { λ r. ⌜ r ≡ plainChange number job run now cells report ready ⌝ }
+{
+    let values = report.values;
+    match number {
+        0 => own_start(job, run, now, cells, ready),
+        2 => own_report(job, run, now, cells, values, report.wrote),
+        3 => speculation_report(job, run, now, cells, values, report.wrote),
+        _ => commit_change(job, run, now, cells, ready),
+    }
+}
+
+/// How many of the jobs before job `j` the step asks about: of a report none.
+fn asked_below(number: u8, j: usize) -> usize
+    ensures { λ r. ⌜ r ≡ askedBelow number j ⌝ }
+{
+    match number {
+        2 => 0,
+        3 => 0,
+        _ => j,
+    }
+}
+
 /// Whether the job is ready as far as the earlier one goes too.
 fn stays_ready(ready: bool, job: Job, earlier: Job, how: u8) -> bool
     ensures { λ r. ⌜ r ≡ (ready && not (waitsFor job earlier how)) ⌝ }
@@ -166,57 +202,28 @@ fn stays_ready(ready: bool, job: Job, earlier: Job, how: u8) -> bool
 }
 
 impl Batch {
-    /// What the step with the number comes to on job `j` of a sealed batch in form.
-    fn change(self, number: u8, j: usize, values: [i32; 4], wrote: u8) -> Change
+    /// What step 1 comes to on job `j`, which stands so and is ready or not.
+    fn speculation_change(self, j: usize, now: Standing, ready: bool) -> Change
         requires { ⌜ j < 128 ⌝ }
-        ensures { λ r. ⌜ r ≡ changeFor self number j values wrote ⌝ }
+        ensures { λ r. ⌜ r ≡ speculationStart (not (eqb (self .speculating) 0)) now (self .cells) ready (sourceMissing (snapshotOf self) j) (guessAt self j) ⌝ }
     {
-        let job = self.jobs[j];
-        let run = self.runs[j];
-        let cells = self.cells;
-        let committed = self.committed[j];
-        let running = self.running[j];
-        let phase = self.phase[j];
-        let now = Standing {
-            committed,
-            running,
-            phase,
-        };
-        if number == 2 {
-            return own_report(job, run, now, cells, values, wrote);
-        }
-        if number == 3 {
-            return speculation_report(job, run, now, cells, values, wrote);
-        }
-        let mut ready = true;
-        let mut i: usize = 0;
-        while i < j {
-            let earlier = self.jobs[i];
-            let how = self.committed[i];
-            let still = stays_ready(ready, job, earlier, how);
-            ready = still;
-            i += 1;
-        }
-        if number == 0 {
-            return own_start(job, run, now, cells, ready);
-        }
-        if number == 4 {
-            return commit_change(job, run, now, cells, ready);
-        }
         let jobs = self.jobs;
-        let settled = self.committed;
-        let sources = walk::sources(jobs, settled, j);
+        let committed = self.committed;
+        let job = self.jobs[j];
+        let cells = self.cells;
+        let sources = walk::sources(jobs, committed, j);
         let missing = unusable_any(sources, &self.phase);
         let presumed = runs::presumed_values(job, cells);
         let handed = self.forwarded_values(job, presumed, sources);
-        let bypassed = walk::bypassed_by(jobs, settled, j);
+        let bypassed = walk::bypassed_by(jobs, committed, j);
         let guess = new_run(handed, sources, bypassed);
         let on = self.speculating != 0;
         speculation_start(on, now, cells, ready, missing, guess)
     }
+
     /// R50 as `step` has it, for a record that is lent: what is refused leaves it as it was.
-    pub fn step_in_place(mut self, number: u8, j: usize, values: [i32; 4], wrote: u8) -> Started
-        ensures { λ r. ⌜ r ≡ stepped self number j values wrote ⌝ }
+    pub fn step_in_place(mut self, number: u8, j: usize, report: Report) -> Started
+        ensures { λ r. ⌜ r ≡ stepped self number j (report .values) (report .wrote) ⌝ }
     {
         if counts_out(
             self.cell_count,
@@ -297,7 +304,32 @@ impl Batch {
                 batch: self,
             };
         }
-        let change = self.change(number, j, values, wrote);
+        let job = self.jobs[j];
+        let held = self.runs[j];
+        let present = self.cells;
+        let committed = self.committed[j];
+        let running = self.running[j];
+        let phase = self.phase[j];
+        let before = Standing {
+            committed,
+            running,
+            phase,
+        };
+        let far = asked_below(number, j);
+        let mut ready = true;
+        let mut m: usize = 0;
+        while m < far {
+            let earlier = self.jobs[m];
+            let how = self.committed[m];
+            let still = stays_ready(ready, job, earlier, how);
+            ready = still;
+            m += 1;
+        }
+        let mut change = plain_change(number, job, held, before, present, report, ready);
+        if number == 1 {
+            let guess = self.speculation_change(j, before, ready);
+            change = guess;
+        }
         let refusal = change.refusal;
         if refusal != 0 {
             return Started {

@@ -44,6 +44,13 @@ pub struct Batch {
     pub phase: [u8; 128],
 }
 
+/// What a worker reports: a value for each access, and 1 if the maybe-write cells were written, else 0.
+#[repr(C)]
+pub struct Report {
+    pub values: [i32; 4],
+    pub wrote: u8,
+}
+
 /// What a call answers that hands nothing out: 0 or the number of its refusal, and the batch.
 #[repr(C)]
 pub struct Answer {

@@ -10,13 +10,6 @@ mod result;
 mod step;
 mod tallies;
 
-/// What a worker reports: a value for each access, and 1 if the maybe-write cells were written, else 0.
-#[repr(C)]
-pub struct Report {
-    pub values: [i32; 4],
-    pub wrote: u8,
-}
-
 /// What a step on a lent batch answers: 0 or the number of its refusal, and the values handed to a run, 0 each where none is started.
 #[repr(C)]
 pub struct Handed {

@@ -3,8 +3,8 @@
 ghost use mathlib.Core.Path.{_≡_};
 ghost use Rattle.sorghemi.specs.Step.{steppedFor, handedBy};
 use crate::Handed;
-use crate::Report;
 use engine::Batch;
+use engine::Report;
 use engine::Started;
 
 /// The step with the number on the job, with the batch by value. Steps 0, 1 and 4 ignore the report.
@@ -26,7 +26,7 @@ pub extern "C" fn sorghemi_step_by_value(
 pub extern "C" fn sorghemi_step(batch: &mut Batch, number: u8, job: usize, report: Report) -> Handed
     ensures { λ r. ⌜ (now (batch .exit) ≡ steppedFor (now (batch .entry)) number job report .batch) × (r ≡ handedBy (steppedFor (now (batch .entry)) number job report)) ⌝ }
 {
-    let started = sorghemi_step_by_value(*batch, number, job, report);
+    let started = (*batch).step_in_place(number, job, report);
     *batch = started.batch;
     Handed {
         refusal: started.refusal,

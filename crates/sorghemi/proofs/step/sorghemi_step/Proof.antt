@@ -1,5 +1,5 @@
 -- `sorghemi_step` meets its contract: a walk of its MIR by hand, since the batch is behind a `&mut`. The borrow is opened,
--- the batch behind it copied and passed to `sorghemi_step_by_value`, of which only its contract is known; the batch handed
+-- the batch behind it copied and passed to `Batch::step_in_place`, of which only its contract is known; the batch handed
 -- back is stored, and the borrow closed at it. No line names a field of the record, so the record may change freely.
 use mathlib.Core.Path.{_≡_, refl, ap}
 use mathlib.Core.List.{[], _∷_, List}
@@ -46,16 +46,16 @@ use Rattle.engine.proofs.Batch.Laws as batch-laws
 use Rattle.engine.proofs.Started as answer
 use Rattle.engine.proofs.Started.Laws as answer-laws
 use Rattle.sorghemi.specs.Step.{steppedFor, handedBy}
-use Rattle.sorghemi.specs.declared.Report.{Report}
+use Rattle.engine.specs.declared.Report.{Report}
 use Rattle.sorghemi.specs.declared.Handed.{Handed}
-use Rattle.sorghemi.proofs.Report as report
-use Rattle.sorghemi.proofs.Report.Laws as report-laws
+use Rattle.engine.proofs.Report as report
+use Rattle.engine.proofs.Report.Laws as report-laws
 use Rattle.sorghemi.proofs.Handed as handed
 use Rattle.sorghemi.proofs.Handed.Laws as handed-laws
-use Rattle.sorghemi.proofs.step.sorghemi_step_by_value as by-value
-use Rattle.sorghemi.proofs.step.sorghemi_step_by_value.Symbol as by-value-def
-use Rattle.sorghemi.proofs.step.sorghemi_step_by_value.Symbol.{name as #by-value}
-use Rattle.sorghemi.proofs.step.sorghemi_step_by_value.Met as by-value-thm
+use Rattle.engine.proofs.Batch.step_in_place as in-place
+use Rattle.engine.proofs.Batch.step_in_place.Symbol as in-place-def
+use Rattle.engine.proofs.Batch.step_in_place.Symbol.{name as #in-place}
+use Rattle.engine.proofs.Batch.step_in_place.Met as in-place-thm
 use Rattle.sorghemi.proofs.step.sorghemi_step.Key.{name as #lent}
 use Rattle.sorghemi.proofs.step.sorghemi_step as lent
 use Rattle.sorghemi.proofs.step.sorghemi_step.Statement as stated
@@ -82,14 +82,14 @@ abbrev handed-val : Handed → Val
 handed-val = Struct.val handed.the-type handed-laws.the-laws
 
 module _ {M : Type 1} (𝓤 : URA M) (H : Heap 𝓤) (A : Atoms 𝓤) (at-mem : Memory → SProp 𝓤) (run : Routine → Fun 𝓤) where
-  abbrev ByValue : Contract 𝓤
-  ByValue = tripleOf 𝓤 H A by-value.signature (by-value.spec 𝓤 H A at-mem run)
+  abbrev InPlace : Contract 𝓤
+  InPlace = tripleOf 𝓤 H A in-place.signature (in-place.spec 𝓤 H A at-mem run)
 
-  -- Of what the by-value step ensures, the clause alone.
+  -- Of what the step in place ensures, the clause alone.
   ensures : (b : Batch) (n j : ℕ) (p : Report) (r : Started)
-      → ent 𝓤 (ensured 𝓤 H A by-value.ended (by-value.clauses 𝓤 H A at-mem run) tt (b, (n, (j, (p, tt)))) tt r) (fact 𝓤 (r ≡ steppedFor b n j p))
+      → ent 𝓤 (ensured 𝓤 H A in-place.ended (in-place.clauses 𝓤 H A at-mem run) tt (b, (n, (j, (p, tt)))) tt r) (fact 𝓤 (r ≡ steppedFor b n j p))
   ensures b n j p r =
-      exE 𝓤 _ (λ ws. snd∗ 𝓤 (sem 𝓤 H A (lasts by-value.ended tt (b, (n, (j, (p, tt)))) ws)) (fact 𝓤 (r ≡ steppedFor b n j p)))
+      exE 𝓤 _ (λ ws. snd∗ 𝓤 (sem 𝓤 H A (lasts in-place.ended tt (b, (n, (j, (p, tt)))) ws)) (fact 𝓤 (r ≡ steppedFor b n j p)))
 
 -- The borrow's lifetime and share, the place and the ghost name of the record, and the arguments.
 module _ {M : Type 1} (𝓤 : URA M) (H : Heap 𝓤) (A : Atoms 𝓤) (W : Given 𝓤 H A) (at-mem : Memory → SProp 𝓤) (run : Routine → Fun 𝓤)
@@ -122,17 +122,17 @@ module _ {M : Type 1} (𝓤 : URA M) (H : Heap 𝓤) (A : Atoms 𝓤) (W : Given
       owned ! u8 (Is u8) (uint-makes 𝓤 H A W w8) n _ (refl, n-fits) $ fjoin ! $ move ! (1 ∷ 0 ∷ []) $ fjoin ! $ frame ! $
       owned ! handed.the-row (Is handed.the-row) (Struct.makes handed.the-type handed-laws.the-plain 𝓤 H A) (handedBy r) _ handed-is $ done !
 
-  -- The answer beside the batch is made of two of the fields that the by-value step hands back.
+  -- The answer beside the batch is made of two of the fields that the step in place hands back.
   made : (r : Started) (v : List Val) → Is answer.the-row r v → Is handed.the-row (handedBy r) (handed-val (handedBy r) ∷ [])
   made r v r-is =
       let parts = Struct.owed answer.the-type answer-laws.the-laws r v r-is in
       Struct.owes handed.the-type handed-laws.the-laws (handedBy r) (parts .0, (parts .1 .0, tt))
 
-  -- The call: what the by-value step asks for is had for nothing, since its parameters are plain data.
-  abbrev call : ByValue 𝓤 H A at-mem run .Ghost
+  -- The call: what the step in place asks for is had for nothing, since its parameters are plain data.
+  abbrev call : InPlace 𝓤 H A at-mem run .Ghost
   call = ((tt, tt, tt, (b, (n, (j, (p, tt)))), (batch-val b ∷ [], (vint w8 n ∷ [], (vint w64 j ∷ [], (report-val p ∷ [], tt))))), tt)
 
-  calls : Is batch.the-row b (batch-val b ∷ []) → ent 𝓤 (emp 𝓤) (ByValue 𝓤 H A at-mem run .pre call)
+  calls : Is batch.the-row b (batch-val b ∷ []) → ent 𝓤 (emp 𝓤) (InPlace 𝓤 H A at-mem run .pre call)
   calls b-is =
       qed W [] ∵ nothing ! $ nothing ! $
       owned ! report.the-row (Is report.the-row) (Struct.makes report.the-type report-laws.the-plain 𝓤 H A) p _ p-is $ fjoin ! $
@@ -141,7 +141,7 @@ module _ {M : Type 1} (𝓤 : URA M) (H : Heap 𝓤) (A : Atoms 𝓤) (W : Given
       owned ! batch.the-row (Is batch.the-row) (Struct.makes batch.the-type batch-laws.the-plain 𝓤 H A) b _ b-is $ fjoin ! $
       move ! (1 ∷ 0 ∷ []) $ join ! $ frame ! $ done !
 
-  module _ (C : Calls 𝓤 H) (Λ : Loops 𝓤 H) (fm : FmC 𝓤 H (W .laws) C) (known : Triple 𝓤 (C #by-value) (ByValue 𝓤 H A at-mem run)) where
+  module _ (C : Calls 𝓤 H) (Λ : Loops 𝓤 H) (fm : FmC 𝓤 H (W .laws) C) (known : Triple 𝓤 (C #in-place) (InPlace 𝓤 H A at-mem run)) where
     walk : ent 𝓤 (onEntry 𝓤 H A lent.signature (κ, tt) (q, tt) args at)
         (WpFn 𝓤 H C Λ code.function (vptr block offset ∷ vint w8 n ∷ vint w64 j ∷ report-val p ∷ []) Post)
     walk =
@@ -161,15 +161,15 @@ module _ {M : Type 1} (𝓤 : URA M) (H : Heap 𝓤) (A : Atoms 𝓤) (W : Given
         -- _6 = *_1. In hand: [the record; what it owns; the open borrow; obs; auth; true; what the others own; _6; …; _0; …]
         assigns ! (of-opd ! (load ! (from ! (hop ! (look ! 17 refl) (stop !))) (look-raw ! 0 refl))) (from ! (stop !))
         (init ! 7 refl (Struct.lawful batch.the-type batch-laws.the-laws 𝓤 H A W .typed b _ b-is .0)) $
-        -- _5 = sorghemi_step_by_value(_6, _2, _3, _4)
-        use0 W (raw (ByValue 𝓤 H A at-mem run .pre call)) (calls b-is) $
-        calls-at ! fm (ByValue 𝓤 H A at-mem run) known call
+        -- _5 = step_in_place(_6, _2, _3, _4)
+        use0 W (raw (InPlace 𝓤 H A at-mem run .pre call)) (calls b-is) $
+        calls-at ! fm (InPlace 𝓤 H A at-mem run) known call
         (and-then ! (load ! (from ! (stop !)) (look ! 8 refl))
         (and-then ! (load ! (from ! (stop !)) (look ! 16 refl))
         (and-then ! (load ! (from ! (stop !)) (look ! 14 refl)) (and-then ! (load ! (from ! (stop !)) (look ! 12 refl)) (no-more !))))) (λ v.
         use1 W
         (later (some (λ (r : Started). (‵ ftrue ⊛ ‵ (answer.the-row .own r (v ∷ [])))
-        ⊛ raw (ensured 𝓤 H A by-value.ended (by-value.clauses 𝓤 H A at-mem run) tt (b, (n, (j, (p, tt)))) tt r)))) (id⊢ 𝓤 _) $
+        ⊛ raw (ensured 𝓤 H A in-place.ended (in-place.clauses 𝓤 H A at-mem run) tt (b, (n, (j, (p, tt)))) tt r)))) (id⊢ 𝓤 _) $
         await ! tt $ pick ! (λ r. split ! $ move ! (1 ∷ []) $
         use1 W (raw (fact 𝓤 (r ≡ steppedFor b n j p))) (ensures 𝓤 H A at-mem run b n j p r) $ heard ! (r ≡ steppedFor b n j p) (λ e. split ! $ drop ! $
         peeks ! answer.the-row (Is answer.the-row) (shows 𝓤 H A answer.the-row) r (v ∷ []) (λ r-is. drop ! $
@@ -196,7 +196,7 @@ module _ {M : Type 1} (𝓤 : URA M) (H : Heap 𝓤) (A : Atoms 𝓤) (W : Given
         keep ! (0 ∷ 1 ∷ 2 ∷ []) $ by ! (exits r e (made r _ r-is)))))))))))))))
 
 module _ {M : Type 1} (𝓤 : URA M) (H : Heap 𝓤) (A : Atoms 𝓤) (W : Given 𝓤 H A) (at-mem : Memory → SProp 𝓤) (run : Routine → Fun 𝓤) where
-  walks : (C : Calls 𝓤 H) (Λ : Loops 𝓤 H) → FmC 𝓤 H (W .laws) C → Triple 𝓤 (C #by-value) (ByValue 𝓤 H A at-mem run)
+  walks : (C : Calls 𝓤 H) (Λ : Loops 𝓤 H) → FmC 𝓤 H (W .laws) C → Triple 𝓤 (C #in-place) (InPlace 𝓤 H A at-mem run)
       → Walks 𝓤 H A lent.ended stayed (WpFn 𝓤 H C Λ code.function) (lent.clauses 𝓤 H A at-mem run)
   walks C Λ fm known =
       walked 𝓤 H A lent.ended stayed (lent.clauses 𝓤 H A at-mem run) (WpFn 𝓤 H C Λ code.function)
@@ -216,7 +216,7 @@ module _ {M : Type 1} (𝓤 : URA M) (H : Heap 𝓤) (A : Atoms 𝓤) (W : Given
   )
 
 meets : {M : Type 1} (𝓤 : URA M) (H : Heap 𝓤) (A : Atoms 𝓤) → Given 𝓤 H A → (at-mem : Memory → SProp 𝓤) (run : Routine → Fun 𝓤) (𝓣 : Tables 𝓤 H)
-    → Triple 𝓤 (𝓣 .C #by-value) (ByValue 𝓤 H A at-mem run)
+    → Triple 𝓤 (𝓣 .C #in-place) (InPlace 𝓤 H A at-mem run)
     → Meets 𝓤 H A lent.signature (WpFn 𝓤 H (𝓣 .C) (𝓣 .Λ) code.function) (lent.spec 𝓤 H A at-mem run)
 meets 𝓤 H A W at-mem run 𝓣 known =
     walk-meets 𝓤 H A lent.ended stayed W (goes 𝓤 H A W at-mem run) (lent.clauses 𝓤 H A at-mem run) (WpFn 𝓤 H (𝓣 .C) (𝓣 .Λ) code.function)
@@ -228,5 +228,5 @@ sorghemi-step-spec 𝓤 H 𝓜 𝓖 𝓡 =
     entered 𝓤 H (tripleOf 𝓤 H (𝓖 .A) lent.signature (lent.spec 𝓤 H (𝓖 .A) (𝓜 .mem) (𝓡 .run)))
     (tables 𝓤 H 𝓜 𝓡 code.env .C) (tables 𝓤 H 𝓜 𝓡 code.env .Λ) #lent code.function (code.unfolded 𝓤 H 𝓜 𝓡)
     (meets 𝓤 H (𝓖 .A) (givenOf 𝓤 H 𝓜 𝓖) (𝓜 .mem) (𝓡 .run) (tablesOf 𝓤 H 𝓜 (tables 𝓤 H 𝓜 𝓡 code.env))
-    (cited 𝓤 H (ByValue 𝓤 H (𝓖 .A) (𝓜 .mem) (𝓡 .run)) 𝓜 𝓡 code.env #by-value by-value-def.routine code.calls-sorghemi·step·sorghemi-step-by-value
-    (by-value-thm.met 𝓤 H 𝓜 𝓖 𝓡)))
+    (cited 𝓤 H (InPlace 𝓤 H (𝓖 .A) (𝓜 .mem) (𝓡 .run)) 𝓜 𝓡 code.env #in-place in-place-def.routine code.calls-engine·Batch·step-in-place
+    (in-place-thm.met 𝓤 H 𝓜 𝓖 𝓡)))
