@@ -7,6 +7,7 @@ mod ask;
 mod by_number;
 mod chooser;
 mod form;
+mod insert_all;
 mod opening;
 pub mod speculation;
 mod steps;
@@ -47,6 +48,14 @@ pub struct Batch {
 #[repr(C)]
 pub struct Answer {
     pub refusal: u8,
+    pub batch: Batch,
+}
+
+/// What inserting a list answers: 0, or the number of the refusal and which job of the list it was, and the batch.
+#[repr(C)]
+pub struct InsertedAll {
+    pub refusal: u8,
+    pub at: u8,
     pub batch: Batch,
 }
 
