@@ -9,6 +9,7 @@ use lib.Dec.{eqb, ltb}
 use lib.ListN.{getD}
 use borrow.Author.Tests.{ltb-true, ltb-false, lt-ltb, le-ltb}
 use Rattle.laws.specs.Search.{anyBelow}
+use Rattle.laws.specs.Fold.{maxBelow}
 use Rattle.laws.specs.SearchLaws.{if-or, or-true, any-find, any-found, any-fails, any-absent, missed}
 use Rattle.dependence.specs.Job.{jobAt}
 use Rattle.admission.specs.Admission.{jobRefusal}
@@ -19,21 +20,12 @@ use Rattle.engine.specs.Form.{countsOut, statesOut, originsOut, jobOut, 
 use Rattle.engine.specs.FormLaws.{counts-in}
 
 -- The largest of the first n numbers of a column.
-unfoldable pub topBelow : ℕ → List ℕ → ℕ
-topBelow zero l = 0
-topBelow (suc n) l = max (getD l n 0) (topBelow n l)
-
-pub top-none : (l : List ℕ) → 0 ≡ topBelow 0 l
-unfolding topBelow
-top-none l = refl
-
-pub top-more : (n : ℕ) (l : List ℕ) → topBelow (suc n) l ≡ max (getD l n 0) (topBelow n l)
-unfolding topBelow
-top-more n l = refl
+abbrev pub topBelow : ℕ → List ℕ → ℕ
+topBelow n l = maxBelow n (λ i. getD l i 0)
 
 -- A number of the column is above a limit if and only if the largest is.
 pub top-search : (k n : ℕ) (l : List ℕ) → ltb k (topBelow n l) ≡ anyBelow n (λ i. ltb k (getD l i 0))
-unfolding topBelow anyBelow
+unfolding maxBelow anyBelow
 top-search k zero l = le-ltb k 0 (omega arith)
 top-search k (suc n) l = of-two (getD l n 0) (topBelow n l) ∙ rw (top-search k n l)
   where

@@ -5,8 +5,11 @@ pub mod FormPass
 pub mod Forwarding
 pub mod Opening
 pub mod OpeningLaws
+pub mod InsertAll
+pub mod InsertAllPass
 pub mod Steps
 pub mod Perform
+pub mod InsertAllLaws
 pub mod ByNumber
 pub mod Change
 pub mod ChangeLaws

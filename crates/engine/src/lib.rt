@@ -8,6 +8,7 @@ mod by_number;
 mod chooser;
 mod form;
 mod in_place;
+mod insert_all;
 mod opening;
 pub mod speculation;
 mod steps;
@@ -55,6 +56,14 @@ pub struct Report {
 #[repr(C)]
 pub struct Answer {
     pub refusal: u8,
+    pub batch: Batch,
+}
+
+/// What inserting a list answers: 0, or the number of the refusal and which job of the list it was, and the batch.
+#[repr(C)]
+pub struct InsertedAll {
+    pub refusal: u8,
+    pub at: u8,
     pub batch: Batch,
 }
 

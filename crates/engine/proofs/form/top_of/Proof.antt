@@ -1,10 +1,10 @@
 -- `top_of` meets its contract: the loop keeps the largest of the numbers passed.
 use native.Mathlib.Omega.{arith}
-use native.Mathlib.Numerals.{add-one}
 use borrow.Author.Needs.{needs}
 use Prim.Native.Nat.{_≤_, _-_}
-use mathlib.Core.Path.{_≡_, _∙_}
-use Rattle.engine.specs.FormPass.{topBelow, top-none, top-more}
+use mathlib.Core.Path.{_≡_, sym, _∙_}
+use Rattle.laws.specs.FoldLaws.{max-none, max-more}
+use Rattle.engine.specs.FormPass.{topBelow}
 use Rattle.engine.proofs.form.top_of.Statement.{statement}
 use Rattle.engine.proofs.form.top_of.Tie as tie
 
@@ -17,7 +17,7 @@ abbrev μ-loop : tie.MeasureT-loop
 
 -- before the first turn
 loop-holds : tie.Need-loop-holds Inv-loop μ-loop
-loop-holds c = (omega arith, omega arith, top-none _)
+loop-holds c = (omega arith, omega arith, sym (max-none _))
 
 element-copy-out-x : tie.Need-element-copy-out-x Inv-loop μ-loop
 element-copy-out-x c = omega arith
@@ -35,7 +35,7 @@ loop-less c = omega arith
 loop-again : tie.Need-loop-again Inv-loop μ-loop
 loop-again c =
     let l = c .before .before .before .loop in
-    (omega arith, omega arith, rw (add-one, top-more, ← l .inv .2) (c .larger .ensures))
+    (omega arith, omega arith, rw (max-more, ← l .inv .2) (c .larger .ensures))
 
 -- all passed
 returns : tie.Need-returns Inv-loop μ-loop

@@ -1,0 +1,92 @@
+//! Inserting a list of jobs in one call.
+
+ghost use mathlib.Core.Path.{_≡_};
+ghost use Prim.Native.Nat.{_≤_};
+ghost use Rattle.engine.specs.InsertAll.{insertedAll};
+ghost use Rattle.engine.specs.InsertAllPass.{refusedFrom};
+use crate::Batch;
+use crate::InsertedAll;
+use crate::opening::blank_run;
+use dependence::Job;
+
+/// The refusal of a job of a list, and its place there; zeros where no job is refused.
+struct FirstRefused {
+    refusal: u8,
+    at: u8,
+}
+
+/// The first of the jobs that is refused, where they are inserted one after the other and `held` jobs are held before.
+fn first_refused(jobs: [Job; 128], count: usize, held: usize, cell_count: u8) -> FirstRefused
+    requires { ⌜ (count ≤ 128) × (held ≤ 128) ⌝ }
+    ensures { λ r. ⌜ r ≡ refusedFrom held «cell_count» jobs 0 count ⌝ }
+{
+    let mut k: usize = 0;
+    while k < count {
+        if 128 <= held + k {
+            return FirstRefused {
+                refusal: 3,
+                at: k as u8,
+            };
+        }
+        let job = jobs[k];
+        if admission::is_refused(job, cell_count) {
+            let refusal = admission::job_refusal(job, cell_count);
+            return FirstRefused {
+                refusal,
+                at: k as u8,
+            };
+        }
+        k += 1;
+    }
+    FirstRefused { refusal: 0, at: 0 }
+}
+
+impl Batch {
+    /// Inserts the first `count` jobs of the list, one after the other. The first that is refused ends it: then nothing is
+    /// changed. Refused with 3 to 8 for a job, which is named by its place in the list, or with 24 or 32.
+    pub fn insert_all(mut self, jobs: [Job; 128], count: usize) -> InsertedAll
+        ensures { λ r. ⌜ r ≡ insertedAll self jobs count ⌝ }
+    {
+        let formed = self.is_in_form();
+        if !formed {
+            return InsertedAll {
+                refusal: 32,
+                at: 0,
+                batch: self,
+            };
+        }
+        if 128 < count {
+            return InsertedAll {
+                refusal: 24,
+                at: 0,
+                batch: self,
+            };
+        }
+        let refused = first_refused(jobs, count, self.job_count as usize, self.cell_count);
+        if refused.refusal != 0 {
+            return InsertedAll {
+                refusal: refused.refusal,
+                at: refused.at,
+                batch: self,
+            };
+        }
+        let run = blank_run();
+        let mut k: usize = 0;
+        while k < count {
+            let job = jobs[k];
+            let n = self.job_count as usize;
+            self.jobs[n] = job;
+            self.runs[n] = run;
+            self.committed[n] = 0;
+            self.running[n] = 0;
+            self.phase[n] = 0;
+            self.job_count += 1;
+            k += 1;
+        }
+        InsertedAll {
+            refusal: 0,
+            at: 0,
+            batch: self,
+        }
+    }
+}
