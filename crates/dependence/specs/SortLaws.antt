@@ -4,11 +4,12 @@ use mathlib.Core.Bool.{Bool, true, false, not, _&&_, _||_, and-assoc}
 use mathlib.Core.Path.{_≡_, refl, sym, ap, _∙_}
 use lib.Dec.{eqb}
 use borrow.Author.Tests.{eqb-true, eq-eqb}
-use Rattle.laws.specs.SearchLaws.{any-same, any-or, any-find, any-found, if-or, and-left, and-right, and-false}
+use Rattle.laws.specs.SearchLaws.{any-same, any-or, any-find, any-found, if-or, clash, and-left, and-right, and-false}
 use Rattle.dependence.specs.declared.Access.{Access}
 use Rattle.dependence.specs.declared.Job.{Job}
 use Rattle.dependence.specs.Job.{isRead, inUse, accessAt}
 use Rattle.dependence.specs.Conflict.{touchesAt, touches, conflictAt, conflicts}
+use Rattle.dependence.specs.ConflictLaws.{conflicts-symmetric}
 use Rattle.dependence.specs.Sort.{mayWrite, namesAt, namesCell, mayWriteAt, mayWriteCell, flowsAt, flows, overwritesAt, overwrites, sortBy, sortOf}
 
 -- An access that may write conflicts with every access to its cell,
@@ -163,3 +164,20 @@ sort-two-exchanged earlier later e =
       writes = and-right (inUse later k && equal) (mayWrite (accessAt later k)) (g .holds);
       same = sym (eqb-true (accessAt earlier i .cell) (accessAt later k .cell) (and-right (inUse later k) equal named));
     })
+
+-- Two jobs conflict just where a height may flow from one to the other, whichever is the earlier.
+pub conflicts-flows : (a b : Job) → conflicts a b ≡ (flows a b || flows b a)
+conflicts-flows a b =
+    if-or (flows a b)
+    (λ t. conflicts-either a b ∙ rw t)
+    (λ f.
+    if-or (flows b a)
+    (λ u. conflicts-symmetric a b ∙ conflicts-either b a ∙ rw (f, u))
+    (λ g.
+    conflicts-either a b
+    ∙ rw (f, g)
+    (if-or (overwrites a b)
+    (λ o.
+    let two = eqb-true (sortOf a b) 2 (sort-two a b ∙ rw (f, o)) in
+    clash (sym (sort-one b a) ∙ eq-eqb (sortOf b a) 1 (sort-two-exchanged a b two)) g)
+    (λ n. n))))

@@ -8,7 +8,7 @@ use Rattle.dependence.specs.Job.{jobAt}
 use Rattle.dependence.specs.Ready.{ready}
 use Rattle.rules.specs.Values.{valueAt, isStale}
 use Rattle.rules.specs.Snapshot.{isLive}
-use Rattle.rules.specs.Speculation.{isReady, isInvalid, judgedAs, validity}
+use Rattle.rules.specs.Speculation.{isReady, handedStale, isInvalid, judgedAs, validity}
 use Rattle.engine.specs.declared.Batch.{Batch}
 use Rattle.engine.specs.Record.{runAt, committedAt, snapshotOf}
 use Rattle.engine.specs.StepLaws.{ready-is}
@@ -46,3 +46,11 @@ module _ (b : Batch) (j : ℕ) where
           → judgedAs (live && not settled) readyNow runStale ≡ judgedAs (live && not settled) readyNow (guessStale live)
       cases true settled readyNow = refl
       cases false settled readyNow = refl
+
+  -- R43. What is handed to a live guess is what its job's run was handed.
+  pub live-stale : (isLive (getD (b .phase) j 0) && runStale) ≡ (isLive (getD (b .phase) j 0) && handedStale (snapshotOf b) j)
+  live-stale = cases (isLive (getD (b .phase) j 0))
+    where
+      cases : (live : Bool) → (live && runStale) ≡ (live && guessStale live)
+      cases true = refl
+      cases false = refl

@@ -1,15 +1,16 @@
 //! The chooser: which step to take next, and on which job.
 
 ghost use mathlib.Core.Path.{_≡_};
-ghost use Rattle.engine.specs.Chooser.{better, noPick, pickFor, refused, named, chosen};
-ghost use Rattle.engine.specs.ChooserPass.{Surveyed, commitPasses, speculationPasses, ownPasses, stepPasses, stepCall};
+ghost use Prim.Native.Nat.{_≤_};
+ghost use lib.Dec.{eqb};
+ghost use lib.ListN.{getD};
+ghost use Rattle.engine.specs.Chooser.{better, noPick, pickBelow, refused, named, chosen};
+ghost use Rattle.engine.specs.ChooserPass.{soughtOf};
 use crate::Batch;
 use crate::Choice;
-use crate::speculation::is_due;
-use crate::speculation::unusable_any;
-use crate::steps::commit_refusal;
-use crate::steps::start_own_refusal;
-use crate::steps::start_speculation_refusal;
+use crate::speculation::is_live;
+use cellset::Cells;
+use cellset::survey::Seen;
 
 /// A job, the length of its chain and how many accesses it has; length 0 where no job is picked.
 struct Pick {
@@ -71,100 +72,50 @@ fn better(pick: Pick, allowed: bool, job: u8, chain: u8, arity: u8) -> Pick
     pick
 }
 
-/// Whether a job held may be committed by its speculative run.
-fn commit_passes(how: u8, phase: u8, ready: bool, invalid: bool) -> bool
-    ensures { λ r. ⌜ r ≡ commitPasses how phase ready invalid ⌝ }
+/// The step to look for, as one more than its number: 4, else 0, else 1; 0 where none was seen.
+fn sought(seen: Seen) -> u8
+    ensures { λ r. ⌜ r ≡ soughtOf seen ⌝ }
 {
-    commit_refusal(how, phase, ready, invalid) == 0
-}
-
-/// Whether the own run of a job held may be started.
-fn own_passes(how: u8, running: u8, phase: u8, ready: bool, invalid: bool) -> bool
-    ensures { λ r. ⌜ r ≡ ownPasses how running phase ready invalid ⌝ }
-{
-    start_own_refusal(how, running, phase, ready, invalid) == 0
-}
-
-/// Whether the speculative run of a job held may be started, where speculation is on.
-fn speculation_passes(on: bool, how: u8, running: u8, phase: u8, ready: bool, missing: bool) -> bool
-    ensures { λ r. ⌜ r ≡ speculationPasses on how running phase ready missing ⌝ }
-{
-    start_speculation_refusal(on, how, running, phase, ready, missing) == 0
-}
-
-/// Whether the step may be taken on a job held: 4, 1, and 0 for any other number.
-fn step_passes(
-    step: u8,
-    on: bool,
-    how: u8,
-    running: u8,
-    phase: u8,
-    ready: bool,
-    invalid: bool,
-    missing: bool,
-) -> bool
-    ensures { λ r. ⌜ r ≡ stepPasses step on how running phase ready invalid missing ⌝ }
-{
-    match step {
-        4 => commit_passes(how, phase, ready, invalid),
-        1 => speculation_passes(on, how, running, phase, ready, missing),
-        _ => own_passes(how, running, phase, ready, invalid),
+    if seen.commit {
+        return 5;
     }
+    if seen.own {
+        return 1;
+    }
+    if seen.speculation {
+        return 2;
+    }
+    0
+}
+
+/// The pick among the first `n` jobs on which the step is allowed, given as one more than its number.
+fn pick_for(
+    step: u8,
+    n: usize,
+    allowed: &[u8; 128],
+    chains: &[u8; 128],
+    arities: &[u8; 128],
+) -> Pick
+    requires { ⌜ n ≤ 128 ⌝ }
+    ensures { λ r. ⌜ r ≡ pickBelow n (λ j. eqb (getD (now (allowed .entry)) j 0) step) (λ j. getD (now (chains .entry)) j 0) (λ j. getD (now (arities .entry)) j 0) ⌝ }
+{
+    let mut pick = no_pick();
+    let mut j: usize = 0;
+    while j < n {
+        let is_allowed = allowed[j] == step;
+        let chain = chains[j];
+        let arity = arities[j];
+        let next = better(pick, is_allowed, j as u8, chain, arity);
+        pick = next;
+        j += 1;
+    }
+    pick
 }
 
 impl Batch {
-    /// The job to take the step on. Only step 1 asks where the values would come from: it notes the nearest writers as it
-    /// goes, in place of a walk back from each job. Values are compared with the cells only where it may decide.
-    fn pick_for(self, step: u8, ready: [bool; 128], chains: [u8; 128]) -> Pick
-        requires { ⌜ Surveyed self ready chains ⌝ }
-        ensures { λ r. ⌜ r ≡ pickFor self (stepCall step) ⌝ }
-    {
-        let n = self.job_count as usize;
-        // each column in a local: reading an element of `self` would copy the whole record
-        let jobs = self.jobs;
-        let committed = self.committed;
-        let outs = self.running;
-        let phases = self.phase;
-        let held = self.runs;
-        let cells = self.cells;
-        let mut nearest = [0u8; 256];
-        let mut pick = no_pick();
-        let mut j: usize = 0;
-        while j < n {
-            // the number alone: a copy of the job here would be loaded whole in every turn
-            let arity = jobs[j].arity;
-            let how = committed[j];
-            let running = outs[j];
-            let phase = phases[j];
-            let is_ready = ready[j];
-            let chain = chains[j];
-            let due = is_due(how, is_ready, phase);
-            let mut invalid = false;
-            if due {
-                let run = held[j];
-                let handed = run.handed;
-                let guessed = jobs[j];
-                let stale = runs::is_stale(guessed, handed, cells);
-                invalid = stale;
-            }
-            let mut missing = false;
-            if step == 1 {
-                let job = jobs[j];
-                let sources = walk::nearest::sources_by(job, &nearest);
-                missing = unusable_any(sources, &phases);
-                walk::nearest::note_job(job, how, (j + 1) as u8, &mut nearest);
-            }
-            let on = self.speculating != 0;
-            let allowed = step_passes(step, on, how, running, phase, is_ready, invalid, missing);
-            let next = better(pick, allowed, j as u8, chain, arity);
-            pick = next;
-            j += 1;
-        }
-        pick
-    }
-
     /// R60 to R62: names an allowed step 4, else 0, else 1, on the job with the longest chain; of equal chains on the job with
     /// the fewest accesses, and of those on the lowest. Refused with 10, with 19 where there is none, or with 32.
+    /// The columns are filled here, for the jobs that are not committed: a function that took the record would copy it.
     pub fn choose(self) -> Choice
         ensures { λ r. ⌜ r ≡ chosen self ⌝ }
     {
@@ -173,23 +124,57 @@ impl Batch {
                 return refused(10);
             }
             let n = self.job_count as usize;
+            let mut names = [0u64; 128];
+            let mut written = [0u64; 128];
+            let mut sure = [0u64; 128];
+            let mut back = [0u64; 128];
+            let mut arities = [0u8; 128];
+            let mut stale = [0u8; 128];
+            let mut j: usize = 0;
+            while j < n {
+                if self.committed[j] != 0 {
+                    j += 1;
+                    continue;
+                }
+                let job = self.jobs[j];
+                let cells = Cells::of(job);
+                names[j] = cells.named;
+                written[j] = cells.written;
+                sure[j] = cells.sure;
+                back[j] = cells.back;
+                arities[j] = job.arity;
+                let mut differs = false;
+                if is_live(self.phase[j]) {
+                    let run = self.runs[j];
+                    let handed = run.handed;
+                    differs = runs::stale::is_stale(job, handed, &self.cells);
+                }
+                stale[j] = differs as u8;
+                j += 1;
+            }
+            let on = self.speculating != 0;
+            let mut allowed = [0u8; 128];
+            let seen = cellset::survey::survey(
+                on,
+                n,
+                &names,
+                &written,
+                &sure,
+                &back,
+                &self.committed,
+                &self.running,
+                &self.phase,
+                &stale,
+                &mut allowed,
+            );
+            let step = sought(seen);
+            if step == 0 {
+                return refused(19);
+            }
             let jobs = self.jobs;
-            let committed = self.committed;
-            let ready = passes::ready_flags(jobs, committed, n);
             let chains = passes::chain_lengths(jobs, n);
-            let commit = self.pick_for(4, ready, chains);
-            if commit.chain != 0 {
-                return named(4, commit);
-            }
-            let own = self.pick_for(0, ready, chains);
-            if own.chain != 0 {
-                return named(0, own);
-            }
-            let speculation = self.pick_for(1, ready, chains);
-            if speculation.chain != 0 {
-                return named(1, speculation);
-            }
-            return refused(19);
+            let pick = pick_for(step, n, &allowed, &chains, &arities);
+            return named(step - 1, pick);
         }
         refused(32)
     }

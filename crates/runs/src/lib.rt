@@ -13,6 +13,8 @@ use dependence::PREDICTED_WRITE;
 use dependence::UNCERTAIN_WRITE;
 use dependence::WRITE;
 
+pub mod stale;
+
 /// What the cell at the place holds: 0 where the place is not in use, and for a cell past the last.
 fn present_at(job: Job, cells: [i32; 64], place: usize) -> i32
     requires { ⌜ place < 4 ⌝ }

@@ -1,0 +1,78 @@
+//! Sets of cells, for cell numbers below 64: a word each, so that the cells of two jobs are compared without a loop.
+
+ghost use mathlib.Core.Path.{_≡_};
+ghost use mathlib.Core.Bool.{cond};
+ghost use Prim.Native.Nat.{_<_};
+ghost use lib.Bits.{bitOr};
+ghost use Rattle.cellset.specs.Cells.{noCells, withPlace, cellsOf};
+use dependence::Job;
+
+pub mod survey;
+
+/// Of the cells of a job, each as a bit of a word: those that it names, those that it may write, those that it surely writes,
+/// and those that a speculative run of it looks back for.
+pub struct Cells {
+    pub named: u64,
+    pub written: u64,
+    pub sure: u64,
+    pub back: u64,
+}
+
+/// The word with the bit, where the test holds.
+fn with_if(word: u64, test: bool, bit: u64) -> u64
+    ensures { λ r. ⌜ r ≡ cond test (bitOr word bit) word ⌝ }
+{
+    if test {
+        return word | bit;
+    }
+    word
+}
+
+impl Cells {
+    /// No cells.
+    fn none() -> Cells
+        ensures { λ r. ⌜ r ≡ noCells ⌝ }
+    {
+        Cells {
+            named: 0,
+            written: 0,
+            sure: 0,
+            back: 0,
+        }
+    }
+
+    /// These cells and the one at place `i` of the job. A cell past the last bit is left out.
+    fn with(self, job: Job, i: usize) -> Cells
+        requires { ⌜ i < 4 ⌝ }
+        ensures { λ r. ⌜ r ≡ withPlace job i self ⌝ }
+    {
+        if (job.arity as usize) <= i {
+            return self;
+        }
+        let access = job.accesses[i];
+        if 64 <= access.cell {
+            return self;
+        }
+        let bit = 1u64 << access.cell;
+        let written = with_if(self.written, access.mode != dependence::READ, bit);
+        let sure_write = dependence::counts_as(access.mode) == dependence::WRITE;
+        let sure = with_if(self.sure, sure_write, bit);
+        let back = with_if(self.back, access.mode != dependence::PREDICTED_WRITE, bit);
+        Cells {
+            named: self.named | bit,
+            written,
+            sure,
+            back,
+        }
+    }
+
+    /// The cells of the job.
+    pub fn of(job: Job) -> Cells
+        ensures { λ r. ⌜ r ≡ cellsOf job ⌝ }
+    {
+        let a = Cells::none().with(job, 0);
+        let b = a.with(job, 1);
+        let c = b.with(job, 2);
+        c.with(job, 3)
+    }
+}
