@@ -8,7 +8,6 @@ use lib.ListN.{getD}
 use Rattle.laws.specs.Search.{anyBelow}
 use Rattle.dependence.specs.declared.Job.{Job}
 use Rattle.dependence.specs.Job.{accessAt, jobAt}
-use Rattle.dependence.specs.Ready.{isCommitted}
 use Rattle.rules.specs.Values.{valueAt, valueFor, isStale}
 use Rattle.rules.specs.Snapshot.{isStored, isLive}
 use Rattle.engine.specs.declared.Run.{Run}
@@ -18,10 +17,6 @@ use Rattle.engine.specs.Record.{runAt}
 -- R44, by whether the job is ready.
 abbrev pub invalidRun : Bool → ℕ → Job → Run → List ℤ → Bool
 invalidRun ready phase job run cells = (ready && isLive phase) && isStale job (valueAt (run .handed)) (valueAt cells)
-
--- Where that may decide what is done with the job next: it is not settled, and a guess of it is judged.
-abbrev pub isDue : ℕ → Bool → ℕ → Bool
-isDue how ready phase = not (isCommitted how) && (ready && isLive phase)
 
 -- R115, of the sources given.
 abbrev pub unusableAt : List ℕ → List ℕ → ℕ → Bool

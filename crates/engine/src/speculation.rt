@@ -4,7 +4,7 @@ ghost use mathlib.Core.Path.{_≡_};
 ghost use Prim.Native.Nat.{_<_};
 ghost use lib.ListN.{length};
 ghost use Rattle.rules.specs.Snapshot.{isLive};
-ghost use Rattle.engine.specs.Speculation.{invalidRun, isDue, unusableAt, unusableAny};
+ghost use Rattle.engine.specs.Speculation.{invalidRun, unusableAt, unusableAny};
 use crate::Run;
 use dependence::Job;
 
@@ -28,19 +28,6 @@ pub(crate) fn is_invalid(ready: bool, phase: u8, job: Job, run: Run, cells: [i32
             let handed = run.handed;
             return runs::is_stale(job, handed, cells);
         }
-    }
-    false
-}
-
-/// Whether the chooser has to know if the run is invalid: it is live, and its job ready and not committed.
-pub(crate) fn is_due(how: u8, unblocked: bool, phase: u8) -> bool
-    ensures { λ r. ⌜ r ≡ isDue how unblocked phase ⌝ }
-{
-    if how != 0 {
-        return false;
-    }
-    if unblocked {
-        return is_live(phase);
     }
     false
 }

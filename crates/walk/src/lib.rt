@@ -10,8 +10,6 @@ ghost use Rattle.walk.specs.Sources.{writesAt, openWriter, sourceFor, so
 use dependence::Job;
 use jobset::JobSet;
 
-pub mod nearest;
-
 /// Whether the job's access at place `i` is to the cell and counts as one of the mode.
 fn writes_at(job: Job, cell: u8, mode: u8, i: usize) -> bool
     requires { ⌜ i < 4 ⌝ }
@@ -70,7 +68,7 @@ fn source_below(jobs: [Job; 128], committed: [u8; 128], cell: u8, j: usize) -> u
 }
 
 /// Whether the value at a place of the job is found by a walk: the place is in use, and its cell not predicted.
-pub(crate) fn looks_back(job: Job, place: usize) -> bool
+fn looks_back(job: Job, place: usize) -> bool
     requires { ⌜ place < 4 ⌝ }
     ensures { λ r. ⌜ r ≡ looksBack job place ⌝ }
 {

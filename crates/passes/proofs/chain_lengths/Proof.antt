@@ -11,10 +11,10 @@ use Rattle.passes.proofs.chain_lengths.Tie as tie
 
 -- the jobs from k on are done
 abbrev Inv-loop : tie.InvT-loop
-Inv-loop job-count jobs nobody lengths₀ named₀ k₀ lengths named k = (k ≤ min job-count 128) × ChainPass jobs job-count k lengths named
+Inv-loop job-count jobs lengths₀ named₀ k₀ lengths named k = (k ≤ min job-count 128) × ChainPass jobs job-count k lengths named
 
 abbrev μ-loop : tie.MeasureT-loop
-μ-loop job-count jobs nobody lengths₀ named₀ k₀ lengths named k = k
+μ-loop job-count jobs lengths₀ named₀ k₀ lengths named k = k
 
 held-requires : tie.Need-held-requires Inv-loop μ-loop
 held-requires c κs = omega arith
@@ -39,8 +39,8 @@ met-by-requires c κs = omega arith
 -- a chain is at most 128 long
 add-length : tie.Need-add-length Inv-loop μ-loop
 add-length c =
-    let l = c .before .before .before .before .before .loop in
-    let s = c .before .before .before .before .before .before .before in
+    let l = c .before .before .before .before .loop in
+    let s = c .before .before .before .before .before .before in
     let long : length (s .args .t1) ≡ 128 = search needs in
     let e : l .k ≡ suc (l .k - 1) = omega arith in
     omega (
@@ -62,8 +62,8 @@ loop-less c = omega arith
 loop-again : tie.Need-loop-again Inv-loop μ-loop
 loop-again c =
     let m = c .before .before in
-    let l = m .before .before .before .before .before .loop in
-    let s = m .before .before .before .before .before .before .before in
+    let l = m .before .before .before .before .loop in
+    let s = m .before .before .before .before .before .before in
     let long : length (s .args .t1) ≡ 128 = search needs in
     let e : l .k ≡ suc (l .k - 1) = omega arith in (
       omega arith,

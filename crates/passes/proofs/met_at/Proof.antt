@@ -20,17 +20,14 @@ cast-if1 c = search needs
 returns : tie.Need-returns
 returns c = (rw (le-leb _ _ (c .if1 .taken)), search needs)
 
+-- a read
+returns-2 : tie.Need-returns-2
+returns-2 c = (rw (lt-leb _ _ (c .before .before .if1 .left), eq-eqb _ _ (c .if2 .taken)), search needs)
+
 element-copy-out-result : tie.Need-element-copy-out-result
 element-copy-out-result c = search needs
 
--- a read: the reader's table
-returns-2 : tie.Need-returns-2
-returns-2 c = (rw (lt-leb _ _ (c .before .before .before .if1 .left), eq-eqb _ _ (c .before .if2 .taken)), search needs)
-
-element-copy-out-result-2 : tie.Need-element-copy-out-result-2
-element-copy-out-result-2 c = search needs
-
--- any other access: the writer's table
+-- any other access
 returns-3 : tie.Need-returns-3
 returns-3 c = (rw (lt-leb _ _ (c .before .before .before .if1 .left), ne-eqb _ _ (c .before .if2 .left)), search needs)
 
@@ -43,7 +40,6 @@ met-at-spec =
     cast-cell
     cast-if1
     returns
-    element-copy-out-result
     returns-2
-    element-copy-out-result-2
+    element-copy-out-result
     returns-3)

@@ -17,9 +17,6 @@ mul-access c = search needs
 element-copy-out-access : tie.Need-element-copy-out-access
 element-copy-out-access c = search needs
 
-conflicts-with-requires : tie.Need-conflicts-with-requires
-conflicts-with-requires c κs = search needs
-
 cast-cell : tie.Need-cast-cell
 cast-cell c = search needs
 
@@ -29,18 +26,12 @@ element-copy-out-old c = search needs
 larger-requires : tie.Need-larger-requires
 larger-requires c κs = search needs
 
-element-write-table : tie.Need-element-write-table
-element-write-table c = search needs
+element-write-named : tie.Need-element-write-named
+element-write-named c = search needs
 
--- an access that conflicts: noted
+-- one that is
 returns-2 : tie.Need-returns-2
-returns-2 c =
-    let asked = c .before .before .before .before in
-    rw (lt-leb _ _ (asked .before .before .if1 .left), ← asked .conflicts-with .ensures, c .before .before .before .if2 .taken, c .larger .ensures)
-
--- one that does not
-returns-3 : tie.Need-returns-3
-returns-3 c = rw (lt-leb _ _ (c .before .before .before .if1 .left), ← c .before .conflicts-with .ensures, c .if2 .left)
+returns-2 c = rw (lt-leb _ _ (c .before .before .before .before .if1 .left), c .larger .ensures)
 
 pub note-at-spec : {M : Type 1} → statement M
 note-at-spec =
@@ -50,10 +41,8 @@ note-at-spec =
     returns
     mul-access
     element-copy-out-access
-    conflicts-with-requires
     cast-cell
     element-copy-out-old
     larger-requires
-    element-write-table
-    returns-2
-    returns-3)
+    element-write-named
+    returns-2)
