@@ -1,7 +1,7 @@
 -- An accepted list of jobs is so many accepted calls that insert one, performed in order: a list of calls as demand 3 speaks of.
 use Prim.Native.Nat.{ℕ, zero, suc, _+_}
 use native.Mathlib.Omega.{arith}
-use mathlib.Core.Bool.{Bool, true, false, cond, _&&_}
+use mathlib.Core.Bool.{Bool, true, _&&_}
 use mathlib.Core.List.{List, [], _∷_}
 use mathlib.Core.Path.{_≡_, refl}
 use lib.Dec.{eqb}
@@ -11,9 +11,10 @@ use Rattle.dependence.specs.declared.Job.{Job}
 use Rattle.dependence.specs.Job.{jobAt}
 use Rattle.rules.specs.Call.{Call, insert}
 use Rattle.engine.specs.declared.Batch.{Batch}
+use Rattle.engine.specs.Form.{inForm}
 use Rattle.engine.specs.Opening.{inserted}
 use Rattle.engine.specs.Perform.{perform}
-use Rattle.engine.specs.InsertAll.{insertedFrom, insertAllRefusal, insertedAll}
+use Rattle.engine.specs.InsertAll.{insertedFrom, insertedAll}
 
 -- The calls that insert the n jobs of the list from place k on, in order.
 unfoldable pub insertCalls : List Job → ℕ → ℕ → List Call
@@ -44,9 +45,9 @@ pub insert-all-performed : (b : Batch) (jobs : List Job) (count : ℕ) → inser
     → (insertedAll b jobs count .batch ≡ performed b (insertCalls jobs 0 count)) × (accepts b (insertCalls jobs 0 count) ≡ true)
 unfolding insertedAll
 insert-all-performed b jobs count e =
-    if-or (eqb (insertAllRefusal b count) 0)
+    if-or (inForm b)
     (λ t. let all = from-performed b b jobs 0 count (rw t at e) in (rw t (all .0), all .1))
-    (λ f. clash (eq-eqb _ _ (rw f at e)) f)
+    (λ f. let out : _≡_ {A = ℕ} 32 0 = rw f at e in absurd (omega arith))
 
 -- R81: a refused one changes nothing.
 
@@ -63,6 +64,6 @@ pub insert-all-unchanged : (b : Batch) (jobs : List Job) (count : ℕ) → (inse
     → insertedAll b jobs count .batch ≡ b
 unfolding insertedAll
 insert-all-unchanged b jobs count refused =
-    if-or (eqb (insertAllRefusal b count) 0)
+    if-or (inForm b)
     (λ t. rw t (from-unchanged b b jobs 0 count (λ e. refused (rw t e))))
     (λ f. rw f)

@@ -2,27 +2,26 @@
 use Prim.Native.Nat.{ℕ, zero, suc, _<_, _≤_, _+_, _-_}
 use native.Mathlib.Omega.{arith}
 use native.Mathlib.Nat.{eq-or-lt-of-le}
-use mathlib.Core.Bool.{Bool, true, false, cond, not, _||_}
-use mathlib.Core.List.{List, [], _∷_}
+use mathlib.Core.Bool.{true, false, cond, not}
+use mathlib.Core.List.{List}
 use mathlib.Core.Logic.{_≢_, ⊎-elim}
-use mathlib.Core.Path.{_≡_, refl, sym, ap, _∙_}
-use lib.Dec.{eqb, leb, ltb}
-use lib.ListN.{length, getD, set, replicate, length-set}
+use mathlib.Core.Path.{_≡_, refl, ap, _∙_}
+use lib.Dec.{eqb, leb}
+use lib.ListN.{length, getD, replicate, length-set}
 use lib.Seq.{getD-set-same, getD-set-other}
-use borrow.Author.Tests.{leb-false, eqb-true, le-leb, lt-leb, lt-ltb, le-ltb, ne-eqb, eq-eqb, not-false}
-use Rattle.laws.specs.Search.{anyBelow}
+use borrow.Author.Tests.{leb-false, eqb-true, le-leb, lt-leb, le-ltb, ne-eqb, eq-eqb, not-false}
 use Rattle.laws.specs.SearchLaws.{if-or, clash, not-true, any-absent}
 use Rattle.laws.specs.Refusal.{firstOf}
 use Rattle.dependence.specs.declared.Job.{Job}
 use Rattle.dependence.specs.Job.{noJob, jobAt}
 use Rattle.admission.specs.Admission.{jobRefusal}
-use Rattle.jobset.specs.JobSet.{emptySet, reachesTo}
+use Rattle.jobset.specs.JobSet.{emptySet}
 use Rattle.jobset.specs.JobSetLaws.{has-empty, not-reaches}
 use Rattle.engine.specs.declared.Batch.{Batch}
 use Rattle.engine.specs.declared.InsertedAll.{InsertedAll}
 use Rattle.engine.specs.declared.insert_all.FirstRefused.{FirstRefused}
 use Rattle.engine.specs.Record.{noRun, blankRun}
-use Rattle.engine.specs.Form.{countsOut, sourceLate, jobOut, inForm}
+use Rattle.engine.specs.Form.{sourceLate, jobOut, inForm}
 use Rattle.engine.specs.FormLaws.{form-counts, form-job}
 use Rattle.engine.specs.Opening.{withInserted, inserted}
 use Rattle.engine.specs.InsertAll.{insertedFrom, insertedAll}
@@ -219,18 +218,14 @@ module _ (b : Batch) (jobs : List Job) (count : ℕ) where
   unfolding insertedAll
   all-out-of-form e = rw e
 
-  pub all-too-many : inForm b ≡ true → 128 < count → insertedAll b jobs count ≡ record { refusal = 24; at = 0; batch = b }
-  unfolding insertedAll firstOf
-  all-too-many e h = rw (e, lt-ltb 128 count h)
-
-  module _ (form : inForm b ≡ true) (few : count ≤ 128) (sized : Sized b) where
+  module _ (form : inForm b ≡ true) (sized : Sized b) where
     abbrev refused : FirstRefused
     refused = refusedFrom (b .«job_count») (b .«cell_count») jobs 0 count
 
     all-looked : insertedAll b jobs count ≡ looked b refused (withFrom b jobs 0 count)
-    unfolding insertedAll firstOf
+    unfolding insertedAll
     all-looked =
-        rw (form, le-ltb 128 count few)
+        rw form
         (from-looked b b (b .«job_count») (b .«cell_count») jobs 0 count sized form (omega arith) refl)
 
     pub all-refused : {r : FirstRefused} → r ≡ refused → (r .refusal ≡ 0 → ⊥)

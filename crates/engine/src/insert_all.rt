@@ -17,7 +17,7 @@ struct FirstRefused {
 
 /// The first of the jobs that is refused, where they are inserted one after the other and `held` jobs are held before.
 fn first_refused(jobs: [Job; 128], count: usize, held: usize, cell_count: u8) -> FirstRefused
-    requires { ⌜ (count ≤ 128) × (held ≤ 128) ⌝ }
+    requires { ⌜ held ≤ 128 ⌝ }
     ensures { λ r. ⌜ r ≡ refusedFrom held «cell_count» jobs 0 count ⌝ }
 {
     let mut k: usize = 0;
@@ -43,7 +43,8 @@ fn first_refused(jobs: [Job; 128], count: usize, held: usize, cell_count: u8) ->
 
 impl Batch {
     /// Inserts the first `count` jobs of the list, one after the other. The first that is refused ends it: then nothing is
-    /// changed. Refused with 3 to 8 for a job, which is named by its place in the list, or with 24 or 32.
+    /// changed. Refused with 3 to 8 for a job, which is named by its place in the list, or with 32. Of more than 128 jobs one
+    /// is refused with 3, if none before it is refused.
     pub fn insert_all(mut self, jobs: [Job; 128], count: usize) -> InsertedAll
         ensures { λ r. ⌜ r ≡ insertedAll self jobs count ⌝ }
     {
@@ -51,13 +52,6 @@ impl Batch {
         if !formed {
             return InsertedAll {
                 refusal: 32,
-                at: 0,
-                batch: self,
-            };
-        }
-        if 128 < count {
-            return InsertedAll {
-                refusal: 24,
                 at: 0,
                 batch: self,
             };

@@ -1,4 +1,4 @@
--- `Batch::insert_all` meets its contract: the record, the number of jobs, the jobs, and then the places filled.
+-- `Batch::insert_all` meets its contract: the record, the jobs, and then the places filled.
 use native.Mathlib.Omega.{arith}
 use borrow.Author.Needs.{needs}
 use borrow.Author.Tests.{not-false}
@@ -10,7 +10,7 @@ use Rattle.engine.specs.Record.{blankRun}
 use Rattle.engine.specs.FormLaws.{form-counts}
 use Rattle.engine.specs.Opening.{withInserted}
 use Rattle.engine.specs.InsertAll.{insertedAll}
-use Rattle.engine.specs.InsertAllPass.{Sized, withFrom, fill-none, fill-more, all-out-of-form, all-too-many, all-refused, all-room, all-accepted}
+use Rattle.engine.specs.InsertAllPass.{Sized, withFrom, fill-none, fill-more, all-out-of-form, all-refused, all-room, all-accepted}
 use Rattle.engine.proofs.Batch.insert_all.Statement.{statement}
 use Rattle.engine.proofs.Batch.insert_all.Tie as tie
 
@@ -32,28 +32,18 @@ returns c =
     let a = c .before .before .args in
     sym (all-out-of-form (a .t1) (a .t2) (a .count) (sym (c .before .is-in-form .ensures) ∙ not-true _ (c .if1 .taken)))
 
--- the number of jobs
-returns-2 : tie.Need-returns-2 Inv-loop μ-loop
-returns-2 c =
-    let t1 = c .before in
-    let a = t1 .before .before .args in
-    sym
-    (all-too-many (a .t1) (a .t2) (a .count) (sym (t1 .before .is-in-form .ensures) ∙ not-false _ (t1 .if1 .left)) (c .if2 .taken))
-
 cast-first-refused : tie.Need-cast-first-refused Inv-loop μ-loop
 cast-first-refused c = omega arith
 
 first-refused-requires : tie.Need-first-refused-requires Inv-loop μ-loop
 first-refused-requires c κs =
-    let t1 = c .before in
-    let form = sym (t1 .before .is-in-form .ensures) ∙ not-false _ (t1 .if1 .left) in
-    (c .if2 .left, form-counts (t1 .before .before .args .t1) form .few-jobs)
+    let form = sym (c .before .is-in-form .ensures) ∙ not-false _ (c .if1 .left) in
+    form-counts (c .before .before .args .t1) form .few-jobs
 
 -- a job
-returns-3 : tie.Need-returns-3 Inv-loop μ-loop
-returns-3 c =
-    let t2 = c .before .before .before in
-    let t1 = t2 .before in
+returns-2 : tie.Need-returns-2 Inv-loop μ-loop
+returns-2 c =
+    let t1 = c .before .before .before in
     let a = t1 .before .before .args in
     let form = sym (t1 .before .is-in-form .ensures) ∙ not-false _ (t1 .if1 .left) in
     let g = t1 .before .before .good .0 .1 .1 .1 .1 .1 .1 .1 in
@@ -64,8 +54,7 @@ returns-3 c =
       running-length = search needs;
       phase-length = search needs;
     } in
-    sym
-    (all-refused (a .t1) (a .t2) (a .count) form (t2 .if2 .left) sized (c .before .before .first-refused .ensures) (c .if3 .taken))
+    sym (all-refused (a .t1) (a .t2) (a .count) form sized (c .before .before .first-refused .ensures) (c .if2 .taken))
 
 blank-run-requires : tie.Need-blank-run-requires Inv-loop μ-loop
 blank-run-requires c κs = search needs
@@ -73,8 +62,7 @@ blank-run-requires c κs = search needs
 -- no place filled yet
 loop-holds : tie.Need-loop-holds Inv-loop μ-loop
 loop-holds c =
-    let t2 = c .before .before .before .before in
-    let t1 = t2 .before in
+    let t1 = c .before .before .before .before in
     let a = t1 .before .before .args in
     let form = sym (t1 .before .is-in-form .ensures) ∙ not-false _ (t1 .if1 .left) in
     let g = t1 .before .before .good .0 .1 .1 .1 .1 .1 .1 .1 in
@@ -86,10 +74,10 @@ loop-holds c =
       phase-length = search needs;
     } in
     let looked = c .before .before .before .first-refused .ensures in
-    let room = all-room (a .t1) (a .t2) (a .count) form (t2 .if2 .left) sized looked (c .before .if3 .left) in
-    let accepted = all-accepted (a .t1) (a .t2) (a .count) form (t2 .if2 .left) sized looked (c .before .if3 .left) in
+    let room = all-room (a .t1) (a .t2) (a .count) form sized looked (c .before .if2 .left) in
+    let accepted = all-accepted (a .t1) (a .t2) (a .count) form sized looked (c .before .if2 .left) in
     let e : a .count - 0 ≡ a .count = omega arith in
-    (omega arith, t2 .if2 .left, c .blank-run .ensures, omega (arith, room), rw e accepted)
+    (omega arith, omega (arith, room), c .blank-run .ensures, omega (arith, room), rw e accepted)
 
 mul-job : tie.Need-mul-job Inv-loop μ-loop
 mul-job c = omega arith
@@ -135,15 +123,15 @@ loop-again : tie.Need-loop-again Inv-loop μ-loop
 unfolding withInserted
 loop-again c =
     let l = c .before .before .loop in
-    let a = c .before .before .before .before .before .before .before .before .before .before .args in
+    let a = c .before .before .before .before .before .before .before .before .before .args in
     let more = fill-more (l .self) (a .t2) (l .k) (a .count) (c .before .loop-test .taken) in
     (omega arith, l .inv .1, l .inv .2, omega (arith, l .inv .3), rw (l .inv .2) (l .inv .4 ∙ rw more))
 
 -- all filled
-returns-4 : tie.Need-returns-4 Inv-loop μ-loop
-returns-4 c =
+returns-3 : tie.Need-returns-3 Inv-loop μ-loop
+returns-3 c =
     let l = c .before .loop in
-    let a = c .before .before .before .before .before .before .before .before .before .args in
+    let a = c .before .before .before .before .before .before .before .before .args in
     let e : a .count - l .k ≡ 0 = omega arith in
     sym (l .inv .4 ∙ rw (e, fill-none (l .self) (a .t2) (l .k)))
 
@@ -155,10 +143,9 @@ insert-all-spec =
     μ-loop
     is-in-form-requires
     returns
-    returns-2
     cast-first-refused
     first-refused-requires
-    returns-3
+    returns-2
     blank-run-requires
     loop-holds
     mul-job
@@ -175,4 +162,4 @@ insert-all-spec =
     add-k
     loop-less
     loop-again
-    returns-4)
+    returns-3)

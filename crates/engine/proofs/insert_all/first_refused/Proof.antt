@@ -1,7 +1,7 @@
 -- `first_refused` meets its contract: each turn looks at one job.
 use native.Mathlib.Omega.{arith}
 use borrow.Author.Needs.{needs}
-use Prim.Native.Nat.{_≤_, _-_}
+use Prim.Native.Nat.{_≤_, _+_, _-_}
 use mathlib.Core.Path.{_≡_, sym, _∙_}
 use Rattle.engine.specs.InsertAllPass.{refusedFrom, look-none, look-full, look-refused, look-more}
 use Rattle.engine.proofs.insert_all.first_refused.Statement.{statement}
@@ -10,7 +10,7 @@ use Rattle.engine.proofs.insert_all.first_refused.Tie as tie
 -- what the jobs left decide is what all decide
 abbrev Inv-loop : tie.InvT-loop
 Inv-loop count held cell-count jobs k₀ k =
-    (k ≤ count) × (count ≤ 128) × (held ≤ 128)
+    (k ≤ count) × (held + k ≤ 128)
     × (refusedFrom held cell-count jobs 0 count ≡ refusedFrom held cell-count jobs k (count - k))
 
 abbrev μ-loop : tie.MeasureT-loop
@@ -19,7 +19,7 @@ abbrev μ-loop : tie.MeasureT-loop
 loop-holds : tie.Need-loop-holds Inv-loop μ-loop
 loop-holds c =
     let e : c .args .count - 0 ≡ c .args .count = omega arith in
-    (omega arith, omega arith, omega arith, rw e)
+    (omega arith, omega arith, rw e)
 
 add-if1 : tie.Need-add-if1 Inv-loop μ-loop
 add-if1 c = omega arith
@@ -33,7 +33,7 @@ returns c =
     let l = c .before .before in
     let a = l .before .args in
     sym
-    (l .loop .inv .3
+    (l .loop .inv .2
     ∙ look-full (a .held) (a .cell-count) (a .t1) (l .loop .k) (a .count) (c .before .loop-test .taken) (c .if1 .taken))
 
 mul-job : tie.Need-mul-job Inv-loop μ-loop
@@ -59,7 +59,7 @@ returns-2 c =
     let a = l .before .args in
     rw (c .job-refusal .ensures)
     (sym
-    (l .loop .inv .3
+    (l .loop .inv .2
     ∙ look-refused (a .held) (a .cell-count) (a .t1) (l .loop .k) (a .count) (t .loop-test .taken)
     (c .before .before .before .before .if1 .left) (sym (c .before .before .is-refused .ensures) ∙ c .before .if2 .taken)))
 
@@ -76,9 +76,8 @@ loop-again c =
     let l = t .before in
     let a = l .before .args in (
       omega arith,
-      l .loop .inv .1,
-      l .loop .inv .2,
-      l .loop .inv .3
+      omega arith,
+      l .loop .inv .2
           ∙ look-more (a .held) (a .cell-count) (a .t1) (l .loop .k) (a .count) (t .loop-test .taken) (c .before .before .before .if1 .left)
           (sym (c .before .is-refused .ensures) ∙ c .if2 .left),
     )
@@ -89,7 +88,7 @@ returns-3 c =
     let l = c .before in
     let a = l .before .args in
     let e : a .count - l .loop .k ≡ 0 = omega arith in
-    sym (l .loop .inv .3 ∙ rw e (look-none (a .held) (a .cell-count) (a .t1) (l .loop .k)))
+    sym (l .loop .inv .2 ∙ rw e (look-none (a .held) (a .cell-count) (a .t1) (l .loop .k)))
 
 pub first-refused-spec : {M : Type 1} → statement M
 first-refused-spec =
