@@ -3,7 +3,7 @@
 use Prim.Native.Nat.{ℕ}
 use mathlib.Core.Bool.{Bool, cond, not, _&&_, _||_}
 use mathlib.Core.List.{List, [], _∷_}
-use lib.Dec.{eqb}
+use lib.Dec.{eqb, ltb}
 use lib.IntN.{ℤ, pos}
 use lib.ListN.{getD, replicate}
 use Rattle.laws.specs.Refusal.{when, firstOf}
@@ -21,9 +21,10 @@ use Rattle.engine.specs.declared.Batch.{Batch}
 use Rattle.engine.specs.declared.Started.{Started}
 use Rattle.engine.specs.declared.in_place.Standing.{Standing}
 use Rattle.engine.specs.declared.in_place.Change.{Change}
-use Rattle.engine.specs.Record.{runAt, snapshotOf}
+use Rattle.engine.specs.Record.{blankRun, runAt, snapshotOf}
+use Rattle.engine.specs.Form.{inForm}
 use Rattle.engine.specs.Speculation.{invalidRun}
-use Rattle.engine.specs.Steps.{withJobChanged, newRun, reportedRun, discardedPhase, speculativeValues, sourcesNow, start}
+use Rattle.engine.specs.Steps.{stepRefusal, withJobChanged, newRun, reportedRun, discardedPhase, speculativeValues, sourcesNow, start}
 
 -- R53: the report on the own run, stored, written and counted.
 abbrev pub ownReport : Job → Run → Standing → List ℤ → List ℤ → ℕ → Change
@@ -122,6 +123,25 @@ changeFor b number j report =
     (speculationStart (not (eqb (b .speculating) 0)) (standingAt b j) (b .cells) (ready (b .jobs) (b .committed) j)
     (sourceMissing (snapshotOf b) j) (guessAt b j))
     (plainChange number (jobAt (b .jobs) j) (runAt b j) (standingAt b j) (b .cells) report (ready (b .jobs) (b .committed) j))
+
+-- What is refused before a job is looked at: the number and nothing else.
+abbrev pub refusedChange : ℕ → Change
+refusedChange refusal =
+    record {
+      refusal = refusal;
+      handed = replicate 4 (pos 0);
+      cells = replicate 64 (pos 0);
+      run = blankRun;
+      now = record { committed = 0; running = 0; phase = 0 };
+    }
+
+-- R100, R121: 32 goes before all, then 21, 10 and 11.
+abbrev pub earlyRefusal : Batch → ℕ → ℕ → ℕ
+earlyRefusal b number j = cond (inForm b) (cond (ltb 4 number) 21 (stepRefusal b j)) 32
+
+unfoldable pub changeOn : Batch → ℕ → ℕ → Report → Change
+changeOn b number j report =
+    cond (eqb (earlyRefusal b number j) 0) (changeFor b number j report) (refusedChange (earlyRefusal b number j))
 
 -- The answer: the change made, or refused.
 abbrev pub withChange : Batch → ℕ → Change → Batch

@@ -7,7 +7,7 @@ use mathlib.Core.Bool.{Bool, true, false, cond, not, _&&_, _||_}
 use mathlib.Core.List.{List}
 use mathlib.Core.Path.{_≡_, refl, sym, _∙_, ap}
 use lib.Dec.{eqb, ltb}
-use borrow.Author.Tests.{eqb-true, ltb-true, ltb-false, le-leb, lt-leb, ne-eqb}
+use borrow.Author.Tests.{eqb-true, ltb-true, ltb-false, lt-ltb, le-ltb, le-leb, lt-leb, ne-eqb}
 use lib.IntN.{ℤ, pos}
 use lib.ListN.{replicate}
 use Rattle.laws.specs.Refusal.{firstOf}
@@ -30,7 +30,7 @@ use Rattle.engine.specs.Steps.{stepRefusal, start, startedOwn, startedSp
 use Rattle.engine.specs.StepLaws.{step-early, step-then, ready-is}
 use Rattle.engine.specs.InvalidRun.{invalid-is}
 use Rattle.engine.specs.ByNumber.{withoutValues, noSuchStep, stepped}
-use Rattle.engine.specs.Change.{speculationStart, standingAt, guessAt, askedBelow, plainChange, changeFor, changed}
+use Rattle.engine.specs.Change.{speculationStart, standingAt, guessAt, askedBelow, plainChange, changeFor, refusedChange, earlyRefusal, changeOn, changed}
 
 -- Readiness, seen one earlier job more.
 pub still-none : (i : ℕ) (p : ℕ → Bool) → (not (anyBelow i p) && not (p i)) ≡ not (anyBelow (i + 1) p)
@@ -117,12 +117,9 @@ step-changes b (suc (suc (suc zero))) j report h early = report-speculation-is b
 step-changes b (suc (suc (suc (suc zero)))) j report h early = commit-is b j report early
 step-changes b (suc (suc (suc (suc (suc n))))) j report h early = absurd (omega (arith, h))
 
--- What is refused before a job is looked at: the number of the refusal, and nothing else.
-abbrev pub refusedWith : Batch → ℕ → Started
-refusedWith b refusal = record { refusal = refusal; handed = replicate 4 (pos 0); batch = b }
-
+-- What is refused before a job is looked at is refused by each step with that number, and changes nothing.
 early-refused : (b : Batch) (number j : ℕ) (report : Report) → number < 5 → eqb (stepRefusal b j) 0 ≡ false
-    → stepped b number j (report .values) (report .wrote) ≡ refusedWith b (stepRefusal b j)
+    → stepped b number j (report .values) (report .wrote) ≡ changed b j (refusedChange (stepRefusal b j))
 unfolding stepped startedOwn startedSpeculation reportedOwn reportedSpeculation committedBy
 early-refused b zero j report h e = rw (step-early b j _ e, e)
 early-refused b (suc zero) j report h e = rw (step-early b j _ e, e)
@@ -132,7 +129,8 @@ early-refused b (suc (suc (suc (suc zero)))) j report h e = rw (step-early b j _
 early-refused b (suc (suc (suc (suc (suc n))))) j report h e = absurd (omega (arith, h))
 
 -- A number above 4.
-past-the-steps : (b : Batch) (number j : ℕ) (report : Report) → 4 < number → stepped b number j (report .values) (report .wrote) ≡ noSuchStep b
+past-the-steps : (b : Batch) (number j : ℕ) (report : Report) → 4 < number
+    → stepped b number j (report .values) (report .wrote) ≡ noSuchStep b
 unfolding stepped
 past-the-steps b number j report h =
     rw (other 0 (omega arith), other 1 (omega arith), other 2 (omega arith), other 3 (omega arith), other 4 (omega arith))
@@ -140,38 +138,50 @@ past-the-steps b number j report h =
     other : (k : ℕ) → k < 5 → eqb number k ≡ false
     other k small = ne-eqb number k (λ e. absurd (omega (arith, h, small, e)))
 
+early-is : (b : Batch) (number j : ℕ) → ltb 4 number ≡ false → earlyRefusal b number j ≡ stepRefusal b j
+early-is b number j f = rw f (cases _ (inForm b))
+  where
+    cases : (x : ℕ) (t : Bool) → cond t (cond t x 32) 32 ≡ cond t x 32
+    cases x true = refl
+    cases x false = refl
+
+-- So a step is its change, made or refused: R9's step on a lent record.
+pub step-is-change : (b : Batch) (number j : ℕ) (report : Report)
+    → stepped b number j (report .values) (report .wrote) ≡ changed b j (changeOn b number j report)
+unfolding changeOn
+step-is-change b number j report =
+    if-or (ltb 4 number)
+    (λ t. past-the-steps b number j report (ltb-true 4 number t) ∙ if-or (inForm b) (λ form. rw (t, form)) (λ out. rw out))
+    (λ f.
+    let small : number < 5 = let l = ltb-false 4 number f in omega (arith, l) in
+    rw (early-is b number j f)
+    (if-or (eqb (stepRefusal b j) 0)
+    (λ t. rw t (step-changes b number j report small (eqb-true (stepRefusal b j) 0 t)))
+    (λ g. rw g (early-refused b number j report small g))))
+
+-- The change as the code comes to it: each number that is refused early, and the change itself.
 module _ (b : Batch) (number j : ℕ) (report : Report) where
-  pub out-of-form-refused : inForm b ≡ false → refusedWith b 32 ≡ stepped b number j (report .values) (report .wrote)
-  out-of-form-refused out =
-      let number-32 : stepRefusal b j ≡ 32 = rw out in
-      if-or (ltb 4 number)
-      (λ t. sym (past-the-steps b number j report (ltb-true 4 number t) ∙ rw out))
-      (λ f.
-      let small = ltb-false 4 number f in
-      sym (early-refused b number j report (omega (arith, small)) (rw number-32) ∙ ap (refusedWith b) number-32))
+  pub out-of-form-refused : inForm b ≡ false → refusedChange 32 ≡ changeOn b number j report
+  unfolding changeOn
+  out-of-form-refused out = rw out
 
-  pub no-step-refused : inForm b ≡ true → 4 < number → refusedWith b 21 ≡ stepped b number j (report .values) (report .wrote)
-  no-step-refused form h = sym (past-the-steps b number j report h ∙ rw form)
+  pub no-step-refused : inForm b ≡ true → 4 < number → refusedChange 21 ≡ changeOn b number j report
+  unfolding changeOn
+  no-step-refused form h = rw (form, lt-ltb 4 number h)
 
-  pub unsealed-refused : inForm b ≡ true → number ≤ 4 → b .sealed ≡ 0 → refusedWith b 10 ≡ stepped b number j (report .values) (report .wrote)
-  unfolding firstOf
-  unsealed-refused form h unsealed =
-      let number-10 : stepRefusal b j ≡ 10 = rw (form, unsealed) in
-      sym (early-refused b number j report (omega (arith, h)) (rw number-10) ∙ ap (refusedWith b) number-10)
+  pub unsealed-refused : inForm b ≡ true → number ≤ 4 → b .sealed ≡ 0 → refusedChange 10 ≡ changeOn b number j report
+  unfolding changeOn firstOf
+  unsealed-refused form h unsealed = rw (form, le-ltb 4 number h, unsealed)
 
   pub no-job-refused : inForm b ≡ true → number ≤ 4 → eqb (b .sealed) 0 ≡ false → b .«job_count» ≤ j
-      → refusedWith b 11 ≡ stepped b number j (report .values) (report .wrote)
-  unfolding firstOf
-  no-job-refused form h sealed none =
-      let number-11 : stepRefusal b j ≡ 11 = rw (form, sealed, le-leb (b .«job_count») j none) in
-      sym (early-refused b number j report (omega (arith, h)) (rw number-11) ∙ ap (refusedWith b) number-11)
+      → refusedChange 11 ≡ changeOn b number j report
+  unfolding changeOn firstOf
+  no-job-refused form h sealed none = rw (form, le-ltb 4 number h, sealed, le-leb (b .«job_count») j none)
 
-  -- What the job is looked at for.
   pub change-made : inForm b ≡ true → number ≤ 4 → eqb (b .sealed) 0 ≡ false → j < b .«job_count»
-      → stepped b number j (report .values) (report .wrote) ≡ changed b j (changeFor b number j report)
-  unfolding firstOf
-  change-made form h sealed held =
-      step-changes b number j report (omega (arith, h)) (rw (form, sealed, lt-leb (b .«job_count») j held))
+      → changeFor b number j report ≡ changeOn b number j report
+  unfolding changeOn firstOf
+  change-made form h sealed held = rw (form, le-ltb 4 number h, sealed, lt-leb (b .«job_count») j held)
 
 -- No job is asked about that is not before job j.
 pub asked-le : (number j : ℕ) → askedBelow number j ≤ j

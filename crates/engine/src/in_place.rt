@@ -1,6 +1,6 @@
-//! The steps for a record that a host lends: one body that checks the record, decides and changes it. A helper that took the
-//! record by value would copy it, so the loops of the check stand here once more, and helpers are handed one job, one run or
-//! a column.
+//! The steps for a record that a host lends: one body that checks the record and tells what the step changes of it. A helper
+//! that took the record by value would copy it, so the loops of the check stand here once more, and helpers are handed one job,
+//! one run or a column.
 
 ghost use mathlib.Core.Path.{_≡_};
 ghost use mathlib.Core.Bool.{not, _&&_};
@@ -9,15 +9,14 @@ ghost use Prim.Native.Nat.{_<_};
 ghost use Rattle.dependence.specs.Ready.{waitsFor};
 ghost use Rattle.rules.specs.Speculation.{sourceMissing};
 ghost use Rattle.engine.specs.Record.{snapshotOf};
-ghost use Rattle.engine.specs.ByNumber.{stepped};
-ghost use Rattle.engine.specs.Change.{ownReport, speculationReport, ownStart, commitChange, speculationStart, guessAt, plainChange, askedBelow};
+ghost use Rattle.engine.specs.Change.{ownReport, speculationReport, ownStart, commitChange, speculationStart, guessAt, plainChange, askedBelow, refusedChange, changeOn};
 use crate::Batch;
 use crate::Report;
 use crate::Run;
-use crate::Started;
 use crate::form::counts_out;
 use crate::form::run_out;
 use crate::form::top_of;
+use crate::opening::blank_run;
 use crate::speculation::is_invalid;
 use crate::speculation::unusable_any;
 use crate::steps::commit_refusal;
@@ -31,20 +30,38 @@ use dependence::Job;
 use jobset::JobSet;
 
 /// How a job stands: how it was committed, whether its own run is out, and the phase of its speculative one.
-struct Standing {
-    committed: u8,
-    running: u8,
-    phase: u8,
+pub struct Standing {
+    pub committed: u8,
+    pub running: u8,
+    pub phase: u8,
 }
 
 /// What a step comes to: the number of its refusal, or 0 and then the values handed out, the cells, and the run and the
-/// standing of its job.
-struct Change {
-    refusal: u8,
-    handed: [i32; 4],
-    cells: [i32; 64],
-    run: Run,
-    now: Standing,
+/// standing of its job. Where the number is not 0, nothing is changed, and what else stands here means nothing.
+pub struct Change {
+    pub refusal: u8,
+    pub handed: [i32; 4],
+    pub cells: [i32; 64],
+    pub run: Run,
+    pub now: Standing,
+}
+
+/// What is refused before a job is looked at.
+fn refused_change(refusal: u8) -> Change
+    ensures { λ r. ⌜ r ≡ refusedChange refusal ⌝ }
+{
+    let run = blank_run();
+    Change {
+        refusal,
+        handed: [0; 4],
+        cells: [0; 64],
+        run,
+        now: Standing {
+            committed: 0,
+            running: 0,
+            phase: 0,
+        },
+    }
 }
 
 /// Step 2 on a job that stands so.
@@ -221,9 +238,9 @@ impl Batch {
         speculation_start(on, now, cells, ready, missing, guess)
     }
 
-    /// R50 as `step` has it, for a record that is lent: what is refused leaves it as it was.
-    pub fn step_in_place(mut self, number: u8, j: usize, report: Report) -> Started
-        ensures { λ r. ⌜ r ≡ stepped self number j (report .values) (report .wrote) ⌝ }
+    /// What the step with the number changes on job `j`, or with which number it is refused: R50 as `step` has it.
+    pub fn change_for(self, number: u8, j: usize, report: Report) -> Change
+        ensures { λ r. ⌜ r ≡ changeOn self number j report ⌝ }
     {
         if counts_out(
             self.cell_count,
@@ -231,43 +248,23 @@ impl Batch {
             self.sealed,
             self.speculating,
         ) {
-            return Started {
-                refusal: 32,
-                handed: [0; 4],
-                batch: self,
-            };
+            return refused_change(32);
         }
         let n = self.job_count as usize;
         if 2 < top_of(&self.committed, n) {
-            return Started {
-                refusal: 32,
-                handed: [0; 4],
-                batch: self,
-            };
+            return refused_change(32);
         }
         if 1 < top_of(&self.running, n) {
-            return Started {
-                refusal: 32,
-                handed: [0; 4],
-                batch: self,
-            };
+            return refused_change(32);
         }
         if 3 < top_of(&self.phase, n) {
-            return Started {
-                refusal: 32,
-                handed: [0; 4],
-                batch: self,
-            };
+            return refused_change(32);
         }
         let mut i: usize = 0;
         while i < n {
             let job = self.jobs[i];
             if admission::is_refused(job, self.cell_count) {
-                return Started {
-                    refusal: 32,
-                    handed: [0; 4],
-                    batch: self,
-                };
+                return refused_change(32);
             }
             i += 1;
         }
@@ -275,34 +272,18 @@ impl Batch {
         while k < n {
             let run = self.runs[k];
             if run_out(run, k) {
-                return Started {
-                    refusal: 32,
-                    handed: [0; 4],
-                    batch: self,
-                };
+                return refused_change(32);
             }
             k += 1;
         }
         if 4 < number {
-            return Started {
-                refusal: 21,
-                handed: [0; 4],
-                batch: self,
-            };
+            return refused_change(21);
         }
         if self.sealed == 0 {
-            return Started {
-                refusal: 10,
-                handed: [0; 4],
-                batch: self,
-            };
+            return refused_change(10);
         }
         if n <= j {
-            return Started {
-                refusal: 11,
-                handed: [0; 4],
-                batch: self,
-            };
+            return refused_change(11);
         }
         let job = self.jobs[j];
         let held = self.runs[j];
@@ -325,32 +306,9 @@ impl Batch {
             ready = still;
             m += 1;
         }
-        let mut change = plain_change(number, job, held, before, present, report, ready);
         if number == 1 {
-            let guess = self.speculation_change(j, before, ready);
-            change = guess;
+            return self.speculation_change(j, before, ready);
         }
-        let refusal = change.refusal;
-        if refusal != 0 {
-            return Started {
-                refusal,
-                handed: [0; 4],
-                batch: self,
-            };
-        }
-        let cells = change.cells;
-        let run = change.run;
-        let now = change.now;
-        let handed = change.handed;
-        self.cells = cells;
-        self.runs[j] = run;
-        self.committed[j] = now.committed;
-        self.running[j] = now.running;
-        self.phase[j] = now.phase;
-        Started {
-            refusal: 0,
-            handed,
-            batch: self,
-        }
+        plain_change(number, job, held, before, present, report, ready)
     }
 }

@@ -1,21 +1,18 @@
--- `Batch::step_in_place` meets its contract: the record's check as `is_in_form` makes it, what every step asks, and the change.
+-- `Batch::change_for` meets its contract: the record's check as `is_in_form` makes it, what every step asks, and the change.
 use native.Mathlib.Omega.{arith}
 use borrow.Author.Tests.{ne-eqb}
 use borrow.Author.Needs.{needs}
 use Prim.Native.Nat.{ℕ, _<_, _≤_, _-_}
 use mathlib.Core.Bool.{false, not}
-use mathlib.Core.Logic.{⊎-elim}
 use mathlib.Core.Path.{_≡_, refl, sym, _∙_, ap}
 use Rattle.laws.specs.Search.{anyBelow}
 use Rattle.laws.specs.SearchLaws.{any-none, passed, missed}
 use Rattle.dependence.specs.Ready.{blocks}
-use Rattle.engine.specs.Steps.{withJobChanged}
-use Rattle.engine.specs.ByNumber.{stepped}
-use Rattle.engine.specs.Change.{askedBelow, changeFor, changed}
+use Rattle.engine.specs.Change.{askedBelow, changeFor, changeOn}
 use Rattle.engine.specs.ChangeLaws.{still-none, plain-made, guess-made, out-of-form-refused, no-step-refused, unsealed-refused, no-job-refused, change-made, asked-le}
 use Rattle.engine.specs.FormPass.{StatesIn, refusedAt, runOutAt, few-jobs, states-in, counts-out-of-form, committed-out-of-form, running-out-of-form, phase-out-of-form, refused-out-of-form, run-out-of-form, all-seen}
-use Rattle.engine.proofs.Batch.step_in_place.Statement.{statement}
-use Rattle.engine.proofs.Batch.step_in_place.Tie as tie
+use Rattle.engine.proofs.Batch.change_for.Statement.{statement}
+use Rattle.engine.proofs.Batch.change_for.Tie as tie
 
 -- no job passed is refused
 abbrev Inv-loop : tie.InvT-loop
@@ -38,7 +35,7 @@ abbrev μ-loop2 : tie.MeasureT-loop2
 abbrev Inv-loop3 : tie.InvT-loop3
 Inv-loop3 number j report self n i k job held present committed running phase before far ready₀ m₀ ready m =
     (m ≤ far) × (far ≤ j) × (j < 128) × (far ≡ askedBelow number j) × (ready ≡ not (anyBelow m (blocks (self .jobs) (self .committed) j)))
-    × (stepped self number j (report .values) (report .wrote) ≡ changed self j (changeFor self number j report))
+    × (changeFor self number j report ≡ changeOn self number j report)
 
 abbrev μ-loop3 : tie.MeasureT-loop3
 μ-loop3 number j report self n i k job held present committed running phase before far ready₀ m₀ ready m = far - m
@@ -46,11 +43,15 @@ abbrev μ-loop3 : tie.MeasureT-loop3
 counts-out-requires : tie.Need-counts-out-requires Inv-loop μ-loop Inv-loop2 μ-loop2 Inv-loop3 μ-loop3
 counts-out-requires c κs = search needs
 
+refused-change-requires : tie.Need-refused-change-requires Inv-loop μ-loop Inv-loop2 μ-loop2 Inv-loop3 μ-loop3
+refused-change-requires c κs = search needs
+
 -- a count
 returns : tie.Need-returns Inv-loop μ-loop Inv-loop2 μ-loop2 Inv-loop3 μ-loop3
-returns c =
+returns r =
+    let c = r .before in
     let a = c .before .before .args in
-    out-of-form-refused (a .t1) (a .number) (a .j) (a .report) (counts-out-of-form (a .t1) (c .before .counts-out .ensures) (c .if1 .taken))
+    r .refused-change .ensures ∙ out-of-form-refused (a .t1) (a .number) (a .j) (a .report) (counts-out-of-form (a .t1) (c .before .counts-out .ensures) (c .if1 .taken))
 
 cast-n : tie.Need-cast-n Inv-loop μ-loop Inv-loop2 μ-loop2 Inv-loop3 μ-loop3
 cast-n c = omega arith
@@ -60,22 +61,30 @@ top-of-requires c κs =
     let t1 = c .before .before in
     few-jobs (t1 .before .before .args .t1) (t1 .before .counts-out .ensures) (t1 .if1 .left)
 
+refused-change-requires-2 : tie.Need-refused-change-requires-2 Inv-loop μ-loop Inv-loop2 μ-loop2 Inv-loop3 μ-loop3
+refused-change-requires-2 c κs = search needs
+
 -- a column
 returns-2 : tie.Need-returns-2 Inv-loop μ-loop Inv-loop2 μ-loop2 Inv-loop3 μ-loop3
-returns-2 c =
+returns-2 r =
+    let c = r .before in
     let a = c .before .before .before .before .before .before .args in
-    out-of-form-refused (a .t1) (a .number) (a .j) (a .report) (committed-out-of-form (a .t1) (c .before .top-of .ensures) (c .if2 .taken))
+    r .refused-change2 .ensures ∙ out-of-form-refused (a .t1) (a .number) (a .j) (a .report) (committed-out-of-form (a .t1) (c .before .top-of .ensures) (c .if2 .taken))
 
 top-of-requires-2 : tie.Need-top-of-requires-2 Inv-loop μ-loop Inv-loop2 μ-loop2 Inv-loop3 μ-loop3
 top-of-requires-2 c κs =
     let t1 = c .before .before .before .before .before .before in
     few-jobs (t1 .before .before .args .t1) (t1 .before .counts-out .ensures) (t1 .if1 .left)
 
+refused-change-requires-3 : tie.Need-refused-change-requires-3 Inv-loop μ-loop Inv-loop2 μ-loop2 Inv-loop3 μ-loop3
+refused-change-requires-3 c κs = search needs
+
 returns-3 : tie.Need-returns-3 Inv-loop μ-loop Inv-loop2 μ-loop2 Inv-loop3 μ-loop3
-returns-3 c =
+returns-3 r =
+    let c = r .before in
     let t2 = c .before .before .before .before in
     let a = t2 .before .before .before .before .before .before .args in
-    out-of-form-refused (a .t1) (a .number) (a .j) (a .report) (running-out-of-form (a .t1) (c .before .top-of2 .ensures) (c .if3 .taken))
+    r .refused-change3 .ensures ∙ out-of-form-refused (a .t1) (a .number) (a .j) (a .report) (running-out-of-form (a .t1) (c .before .top-of2 .ensures) (c .if3 .taken))
 
 top-of-requires-3 : tie.Need-top-of-requires-3 Inv-loop μ-loop Inv-loop2 μ-loop2 Inv-loop3 μ-loop3
 top-of-requires-3 c κs =
@@ -83,11 +92,15 @@ top-of-requires-3 c κs =
     let t1 = t2 .before .before .before .before in
     few-jobs (t1 .before .before .args .t1) (t1 .before .counts-out .ensures) (t1 .if1 .left)
 
+refused-change-requires-4 : tie.Need-refused-change-requires-4 Inv-loop μ-loop Inv-loop2 μ-loop2 Inv-loop3 μ-loop3
+refused-change-requires-4 c κs = search needs
+
 returns-4 : tie.Need-returns-4 Inv-loop μ-loop Inv-loop2 μ-loop2 Inv-loop3 μ-loop3
-returns-4 c =
+returns-4 r =
+    let c = r .before in
     let t2 = c .before .before .before .before .before .before .before .before in
     let a = t2 .before .before .before .before .before .before .args in
-    out-of-form-refused (a .t1) (a .number) (a .j) (a .report) (phase-out-of-form (a .t1) (c .before .top-of3 .ensures) (c .if4 .taken))
+    r .refused-change4 .ensures ∙ out-of-form-refused (a .t1) (a .number) (a .j) (a .report) (phase-out-of-form (a .t1) (c .before .top-of3 .ensures) (c .if4 .taken))
 
 loop-holds : tie.Need-loop-holds Inv-loop μ-loop Inv-loop2 μ-loop2 Inv-loop3 μ-loop3
 loop-holds c =
@@ -113,12 +126,16 @@ element-copy-out-job c = omega arith
 is-refused-requires : tie.Need-is-refused-requires Inv-loop μ-loop Inv-loop2 μ-loop2 Inv-loop3 μ-loop3
 is-refused-requires c κs = search needs
 
+refused-change-requires-5 : tie.Need-refused-change-requires-5 Inv-loop μ-loop Inv-loop2 μ-loop2 Inv-loop3 μ-loop3
+refused-change-requires-5 c κs = search needs
+
 -- a job
 returns-5 : tie.Need-returns-5 Inv-loop μ-loop Inv-loop2 μ-loop2 Inv-loop3 μ-loop3
-returns-5 c =
+returns-5 r =
+    let c = r .before in
     let l = c .before .before .before .before in
     let a = l .before .before .before .before .before .before .before .before .before .before .before .before .before .before .before .args in
-    out-of-form-refused (a .t1) (a .number) (a .j) (a .report) (refused-out-of-form (a .t1) (l .loop .i) (rw (← l .loop .inv .2) (c .before .before .before .loop-test .taken)) (c .before .is-refused .ensures) (c .if5 .taken))
+    r .refused-change5 .ensures ∙ out-of-form-refused (a .t1) (a .number) (a .j) (a .report) (refused-out-of-form (a .t1) (l .loop .i) (rw (← l .loop .inv .2) (c .before .before .before .loop-test .taken)) (c .before .is-refused .ensures) (c .if5 .taken))
 
 add-i : tie.Need-add-i Inv-loop μ-loop Inv-loop2 μ-loop2 Inv-loop3 μ-loop3
 add-i c = omega arith
@@ -146,12 +163,16 @@ element-copy-out-run c = omega arith
 run-out-requires : tie.Need-run-out-requires Inv-loop μ-loop Inv-loop2 μ-loop2 Inv-loop3 μ-loop3
 run-out-requires c κs = search needs
 
+refused-change-requires-6 : tie.Need-refused-change-requires-6 Inv-loop μ-loop Inv-loop2 μ-loop2 Inv-loop3 μ-loop3
+refused-change-requires-6 c κs = search needs
+
 -- a run
 returns-6 : tie.Need-returns-6 Inv-loop μ-loop Inv-loop2 μ-loop2 Inv-loop3 μ-loop3
-returns-6 c =
+returns-6 r =
+    let c = r .before in
     let l = c .before .before .before .before in
     let a = l .before .before .before .before .before .before .before .before .before .before .before .before .before .before .before .before .before .args in
-    out-of-form-refused (a .t1) (a .number) (a .j) (a .report) (run-out-of-form (a .t1) (l .loop2 .k) (rw (← l .loop2 .inv .2) (c .before .before .before .loop2-test .taken)) (c .before .run-out .ensures) (c .if6 .taken))
+    r .refused-change6 .ensures ∙ out-of-form-refused (a .t1) (a .number) (a .j) (a .report) (run-out-of-form (a .t1) (l .loop2 .k) (rw (← l .loop2 .inv .2) (c .before .before .before .loop2-test .taken)) (c .before .run-out .ensures) (c .if6 .taken))
 
 add-k : tie.Need-add-k Inv-loop μ-loop Inv-loop2 μ-loop2 Inv-loop3 μ-loop3
 add-k c = omega arith
@@ -164,31 +185,43 @@ loop2-again c =
     let l = c .before .before .before .before .loop2 in
     (omega arith, l .inv .1, l .inv .2, l .inv .3, l .inv .4, passed _ _ (l .inv .5) (c .before .run-out .ensures) (c .if6 .left))
 
+refused-change-requires-7 : tie.Need-refused-change-requires-7 Inv-loop μ-loop Inv-loop2 μ-loop2 Inv-loop3 μ-loop3
+refused-change-requires-7 c κs = search needs
+
 -- no such step
 returns-7 : tie.Need-returns-7 Inv-loop μ-loop Inv-loop2 μ-loop2 Inv-loop3 μ-loop3
-returns-7 c =
+returns-7 r =
+    let c = r .before in
     let i = c .before .before .loop2 .inv in
     let a = c .before .before .before .before .before .before .before .before .before .before .before .before .before .before .before .before .before .before .before .args in
     let form = all-seen (a .t1) (i .2) (i .3) (i .4) (i .0) (c .before .loop2-test .left) (i .5) in
-    no-step-refused (a .t1) (a .number) (a .j) (a .report) form (c .if7 .taken)
+    r .refused-change7 .ensures ∙ no-step-refused (a .t1) (a .number) (a .j) (a .report) form (c .if7 .taken)
+
+refused-change-requires-8 : tie.Need-refused-change-requires-8 Inv-loop μ-loop Inv-loop2 μ-loop2 Inv-loop3 μ-loop3
+refused-change-requires-8 c κs = search needs
 
 -- not sealed
 returns-8 : tie.Need-returns-8 Inv-loop μ-loop Inv-loop2 μ-loop2 Inv-loop3 μ-loop3
-returns-8 c =
+returns-8 r =
+    let c = r .before in
     let d = c .before .before in
     let i = d .before .loop2 .inv in
     let a = d .before .before .before .before .before .before .before .before .before .before .before .before .before .before .before .before .before .before .args in
     let form = all-seen (a .t1) (i .2) (i .3) (i .4) (i .0) (d .loop2-test .left) (i .5) in
-    unsealed-refused (a .t1) (a .number) (a .j) (a .report) form (c .before .if7 .left) (c .if8 .taken)
+    r .refused-change8 .ensures ∙ unsealed-refused (a .t1) (a .number) (a .j) (a .report) form (c .before .if7 .left) (c .if8 .taken)
+
+refused-change-requires-9 : tie.Need-refused-change-requires-9 Inv-loop μ-loop Inv-loop2 μ-loop2 Inv-loop3 μ-loop3
+refused-change-requires-9 c κs = search needs
 
 -- no such job
 returns-9 : tie.Need-returns-9 Inv-loop μ-loop Inv-loop2 μ-loop2 Inv-loop3 μ-loop3
-returns-9 c =
+returns-9 r =
+    let c = r .before in
     let d = c .before .before .before in
     let i = d .before .loop2 .inv in
     let a = d .before .before .before .before .before .before .before .before .before .before .before .before .before .before .before .before .before .before .args in
     let form = all-seen (a .t1) (i .2) (i .3) (i .4) (i .0) (d .loop2-test .left) (i .5) in
-    no-job-refused (a .t1) (a .number) (a .j) (a .report) form (c .before .before .if7 .left) (ne-eqb _ _ (c .before .if8 .left)) (rw (← i .2) (c .if9 .taken))
+    r .refused-change9 .ensures ∙ no-job-refused (a .t1) (a .number) (a .j) (a .report) form (c .before .before .if7 .left) (ne-eqb _ _ (c .before .if8 .left)) (rw (← i .2) (c .if9 .taken))
 
 mul-job-2 : tie.Need-mul-job-2 Inv-loop μ-loop Inv-loop2 μ-loop2 Inv-loop3 μ-loop3
 mul-job-2 c =
@@ -274,58 +307,34 @@ loop3-again c =
     let l = c .before .before .before .before .loop3 in
     (omega arith, l .inv .1, l .inv .2, l .inv .3, c .stays-ready .ensures ∙ rw (l .inv .4) (still-none (l .m) _), l .inv .5)
 
+speculation-change-requires : tie.Need-speculation-change-requires Inv-loop μ-loop Inv-loop2 μ-loop2 Inv-loop3 μ-loop3
+speculation-change-requires c κs = c .before .before .loop3 .inv .2
+
+-- a guess
+returns-10 : tie.Need-returns-10 Inv-loop μ-loop Inv-loop2 μ-loop2 Inv-loop3 μ-loop3
+returns-10 c =
+    let out = c .before .before in
+    let l = out .before .loop3 in
+    let a = out .before .before .before .before .before .before .before .before .before .before .before .before .before .before .before .before .before .before .before .before .before .before .before .before .before .before .before .before .before .before .args in
+    let all : l .m ≡ askedBelow (a .number) (a .j) = omega (arith, l .inv .0, out .loop3-test .left) ∙ l .inv .3 in
+    let seen = l .inv .4 ∙ ap (λ (n : ℕ). not (anyBelow n (blocks (a .t1 .jobs) (a .t1 .committed) (a .j)))) all in
+    guess-made (a .t1) (a .number) (a .j) (a .report) seen (c .before .if10 .taken) (c .speculation-change .ensures) ∙ l .inv .5
+
 plain-change-requires : tie.Need-plain-change-requires Inv-loop μ-loop Inv-loop2 μ-loop2 Inv-loop3 μ-loop3
 plain-change-requires c κs = search needs
 
-speculation-change-requires : tie.Need-speculation-change-requires Inv-loop μ-loop Inv-loop2 μ-loop2 Inv-loop3 μ-loop3
-speculation-change-requires c κs = c .before .before .before .loop3 .inv .2
-
-returns-10 : tie.Need-returns-10 Inv-loop μ-loop Inv-loop2 μ-loop2 Inv-loop3 μ-loop3
-returns-10 c =
-    let g = c .before in
-    let out = g .before .before in
-    let l = out .before .loop3 in
-    let a = out .before .before .before .before .before .before .before .before .before .before .before .before .before .before .before .before .before .before .before .before .before .before .before .before .before .before .before .before .before .before .args in
-    let all : l .m ≡ askedBelow (a .number) (a .j) = omega (arith, l .inv .0, out .loop3-test .left) ∙ l .inv .3 in
-    let seen = l .inv .4 ∙ ap (λ (n : ℕ). not (anyBelow n (blocks (a .t1 .jobs) (a .t1 .committed) (a .j)))) all in
-    let made : g .if10 .change ≡ changeFor (a .t1) (a .number) (a .j) (a .report) = ⊎-elim
-    (λ w. guess-made (a .t1) (a .number) (a .j) (a .report) seen (w .0 .taken) (w .2 ∙ w .1 .ensures))
-    (λ w. plain-made (a .t1) (a .number) (a .j) (a .report) seen (ne-eqb _ _ (w .0 .left)) (w .1 ∙ g .before .plain-change .ensures))
-    (g .if10 .came) in
-    rw (l .inv .5, ← made, ne-eqb _ _ (c .if11 .taken))
-
-mul-run-2 : tie.Need-mul-run-2 Inv-loop μ-loop Inv-loop2 μ-loop2 Inv-loop3 μ-loop3
-mul-run-2 c = omega (arith, c .before .before .before .before .before .before .before .before .loop3 .inv .2)
-
-element-set-from-run : tie.Need-element-set-from-run Inv-loop μ-loop Inv-loop2 μ-loop2 Inv-loop3 μ-loop3
-element-set-from-run c = omega (arith, c .before .before .before .before .before .before .before .before .loop3 .inv .2)
-
-element-write-self : tie.Need-element-write-self Inv-loop μ-loop Inv-loop2 μ-loop2 Inv-loop3 μ-loop3
-element-write-self c = omega (arith, c .before .before .before .before .before .before .before .before .loop3 .inv .2)
-
-element-write-self-2 : tie.Need-element-write-self-2 Inv-loop μ-loop Inv-loop2 μ-loop2 Inv-loop3 μ-loop3
-element-write-self-2 c = omega (arith, c .before .before .before .before .before .before .before .before .loop3 .inv .2)
-
-element-write-self-3 : tie.Need-element-write-self-3 Inv-loop μ-loop Inv-loop2 μ-loop2 Inv-loop3 μ-loop3
-element-write-self-3 c = omega (arith, c .before .before .before .before .before .before .before .before .loop3 .inv .2)
-
+-- any other step
 returns-11 : tie.Need-returns-11 Inv-loop μ-loop Inv-loop2 μ-loop2 Inv-loop3 μ-loop3
-unfolding withJobChanged
 returns-11 c =
-    let g = c .before .before .before .before .before in
-    let out = g .before .before in
+    let out = c .before .before in
     let l = out .before .loop3 in
     let a = out .before .before .before .before .before .before .before .before .before .before .before .before .before .before .before .before .before .before .before .before .before .before .before .before .before .before .before .before .before .before .args in
     let all : l .m ≡ askedBelow (a .number) (a .j) = omega (arith, l .inv .0, out .loop3-test .left) ∙ l .inv .3 in
     let seen = l .inv .4 ∙ ap (λ (n : ℕ). not (anyBelow n (blocks (a .t1 .jobs) (a .t1 .committed) (a .j)))) all in
-    let made : g .if10 .change ≡ changeFor (a .t1) (a .number) (a .j) (a .report) = ⊎-elim
-    (λ w. guess-made (a .t1) (a .number) (a .j) (a .report) seen (w .0 .taken) (w .2 ∙ w .1 .ensures))
-    (λ w. plain-made (a .t1) (a .number) (a .j) (a .report) seen (ne-eqb _ _ (w .0 .left)) (w .1 ∙ g .before .plain-change .ensures))
-    (g .if10 .came) in
-    rw (l .inv .5, ← made, c .before .before .before .before .if11 .left)
+    plain-made (a .t1) (a .number) (a .j) (a .report) seen (ne-eqb _ _ (c .before .if10 .left)) (c .plain-change .ensures) ∙ l .inv .5
 
-pub step-in-place-spec : {M : Type 1} → statement M
-step-in-place-spec =
+pub change-for-spec : {M : Type 1} → statement M
+change-for-spec =
     tie.close
     (tie.spec
     Inv-loop
@@ -335,18 +344,23 @@ step-in-place-spec =
     Inv-loop3
     μ-loop3
     counts-out-requires
+    refused-change-requires
     returns
     cast-n
     top-of-requires
+    refused-change-requires-2
     returns-2
     top-of-requires-2
+    refused-change-requires-3
     returns-3
     top-of-requires-3
+    refused-change-requires-4
     returns-4
     loop-holds
     mul-job
     element-copy-out-job
     is-refused-requires
+    refused-change-requires-5
     returns-5
     add-i
     loop-less
@@ -355,12 +369,16 @@ step-in-place-spec =
     mul-run
     element-copy-out-run
     run-out-requires
+    refused-change-requires-6
     returns-6
     add-k
     loop2-less
     loop2-again
+    refused-change-requires-7
     returns-7
+    refused-change-requires-8
     returns-8
+    refused-change-requires-9
     returns-9
     mul-job-2
     element-copy-out-job-2
@@ -378,12 +396,7 @@ step-in-place-spec =
     add-m
     loop3-less
     loop3-again
-    plain-change-requires
     speculation-change-requires
     returns-10
-    mul-run-2
-    element-set-from-run
-    element-write-self
-    element-write-self-2
-    element-write-self-3
+    plain-change-requires
     returns-11)
