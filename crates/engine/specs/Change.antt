@@ -19,8 +19,8 @@ use Rattle.engine.specs.declared.Report.{Report}
 use Rattle.engine.specs.declared.Run.{Run}
 use Rattle.engine.specs.declared.Batch.{Batch}
 use Rattle.engine.specs.declared.Started.{Started}
-use Rattle.engine.specs.declared.in_place.Standing.{Standing}
-use Rattle.engine.specs.declared.in_place.Change.{Change}
+use Rattle.engine.specs.declared.change.Standing.{Standing}
+use Rattle.engine.specs.declared.change.Change.{Change}
 use Rattle.engine.specs.Record.{blankRun, runAt, snapshotOf}
 use Rattle.engine.specs.Form.{inForm}
 use Rattle.engine.specs.Speculation.{invalidRun}

@@ -7,12 +7,12 @@ use mathlib.Core.Bool.{Bool, true, false, cond, not, _&&_, _||_}
 use mathlib.Core.List.{List}
 use mathlib.Core.Path.{_≡_, refl, sym, _∙_, ap}
 use lib.Dec.{eqb, ltb}
-use borrow.Author.Tests.{eqb-true, ltb-true, ltb-false, lt-ltb, le-ltb, le-leb, lt-leb, ne-eqb}
+use borrow.Author.Tests.{eqb-true, eq-eqb, ltb-true, ltb-false, lt-ltb, le-ltb, le-leb, lt-leb, ne-eqb}
 use lib.IntN.{ℤ, pos}
 use lib.ListN.{replicate}
 use Rattle.laws.specs.Refusal.{firstOf}
 use Rattle.laws.specs.Search.{anyBelow}
-use Rattle.laws.specs.SearchLaws.{if-or}
+use Rattle.laws.specs.SearchLaws.{if-or, clash}
 use Rattle.dependence.specs.declared.Job.{Job}
 use Rattle.dependence.specs.Job.{jobAt}
 use Rattle.dependence.specs.Ready.{blocks, ready}
@@ -22,12 +22,12 @@ use Rattle.engine.specs.declared.Batch.{Batch}
 use Rattle.engine.specs.declared.Answer.{Answer}
 use Rattle.engine.specs.declared.Started.{Started}
 use Rattle.engine.specs.declared.Report.{Report}
-use Rattle.engine.specs.declared.in_place.Change.{Change}
+use Rattle.engine.specs.declared.change.Change.{Change}
 use Rattle.engine.specs.Record.{runAt, snapshotOf}
 use Rattle.engine.specs.Form.{inForm}
 use Rattle.engine.specs.Opening.{answer}
 use Rattle.engine.specs.Steps.{stepRefusal, start, startedOwn, startedSpeculation, reportedOwn, reportedSpeculation, committedBy}
-use Rattle.engine.specs.StepLaws.{step-early, step-then, ready-is}
+use Rattle.engine.specs.StepLaws.{step-early, step-then, step-place, ready-is}
 use Rattle.engine.specs.InvalidRun.{invalid-is}
 use Rattle.engine.specs.ByNumber.{withoutValues, noSuchStep, stepped}
 use Rattle.engine.specs.Change.{speculationStart, standingAt, guessAt, askedBelow, plainChange, changeFor, refusedChange, earlyRefusal, changeOn, changed}
@@ -158,6 +158,20 @@ step-is-change b number j report =
     (if-or (eqb (stepRefusal b j) 0)
     (λ t. rw t (step-changes b number j report small (eqb-true (stepRefusal b j) 0 t)))
     (λ g. rw g (early-refused b number j report small g))))
+
+-- An accepted step is on a job for which the columns have a place.
+pub change-place : (b : Batch) (number j : ℕ) (report : Report) → changeOn b number j report .refusal ≡ 0 → j < 128
+unfolding changeOn
+change-place b number j report e =
+    if-or (eqb (earlyRefusal b number j) 0) (λ t. step-place b j (held (eqb-true (earlyRefusal b number j) 0 t)))
+    (λ f. clash (eq-eqb _ _ (rw f at e)) f)
+  where
+    neither : (t : Bool) → _≡_ {A = ℕ} (cond t 21 32) 0 → ⊥
+    neither true e = absurd (omega (arith, e))
+    neither false e = absurd (omega (arith, e))
+
+    held : earlyRefusal b number j ≡ 0 → stepRefusal b j ≡ 0
+    held e = if-or (ltb 4 number) (λ t. absurd (neither (inForm b) (rw t at e))) (λ f. sym (early-is b number j f) ∙ e)
 
 -- The change as the code comes to it: each number that is refused early, and the change itself.
 module _ (b : Batch) (number j : ℕ) (report : Report) where

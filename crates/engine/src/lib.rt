@@ -5,9 +5,9 @@ use jobset::JobSet;
 
 mod ask;
 mod by_number;
+mod change;
 mod chooser;
 mod form;
-mod in_place;
 mod insert_all;
 mod opening;
 pub mod speculation;

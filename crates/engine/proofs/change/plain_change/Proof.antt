@@ -1,8 +1,8 @@
 -- `plain_change` meets its contract: each number is its change.
 use borrow.Author.Tests.{ne-eqb}
 use borrow.Author.Needs.{needs}
-use Rattle.engine.proofs.in_place.plain_change.Statement.{statement}
-use Rattle.engine.proofs.in_place.plain_change.Tie as tie
+use Rattle.engine.proofs.change.plain_change.Statement.{statement}
+use Rattle.engine.proofs.change.plain_change.Tie as tie
 
 own-start-requires : tie.Need-own-start-requires
 own-start-requires c κs = search needs

@@ -1,14 +1,16 @@
-//! The steps for a record that a host lends: one body that checks the record and tells what the step changes of it. A helper
-//! that took the record by value would copy it, so the loops of the check stand here once more, and helpers are handed one job,
-//! one run or a column.
+//! What a step changes: one body that checks the record, decides and tells the change, and only reads. Whoever takes the step
+//! stores the change. A helper that took the record by value would copy it, so the loops of the check stand here once more,
+//! and helpers are handed one job, one run or a column.
 
 ghost use mathlib.Core.Path.{_≡_};
 ghost use mathlib.Core.Bool.{not, _&&_};
 ghost use lib.Dec.{eqb};
 ghost use Prim.Native.Nat.{_<_};
 ghost use Rattle.dependence.specs.Ready.{waitsFor};
+ghost use Rattle.rules.specs.Values.{four};
 ghost use Rattle.rules.specs.Speculation.{sourceMissing};
 ghost use Rattle.engine.specs.Record.{snapshotOf};
+ghost use Rattle.engine.specs.Speculation.{SourcesHeld, forwardedAt};
 ghost use Rattle.engine.specs.Change.{ownReport, speculationReport, ownStart, commitChange, speculationStart, guessAt, plainChange, askedBelow, refusedChange, changeOn};
 use crate::Batch;
 use crate::Report;
@@ -219,6 +221,28 @@ fn stays_ready(ready: bool, job: Job, earlier: Job, how: u8) -> bool
 }
 
 impl Batch {
+    /// What the speculative run is handed: at each place forwarded from its source, or what is presumed there.
+    fn forwarded_values(self, job: Job, presumed: [i32; 4], sources: [u8; 4]) -> [i32; 4]
+        requires { ⌜ SourcesHeld sources ⌝ }
+        ensures { λ r. ⌜ r ≡ four (forwardedAt self job presumed sources) ⌝ }
+    {
+        let mut handed = presumed;
+        let mut place: usize = 0;
+        while place < 4 {
+            let source = sources[place] as usize;
+            if source != 0 {
+                let writer = self.jobs[source - 1];
+                let run = self.runs[source - 1];
+                let reported = run.reported;
+                let access = job.accesses[place];
+                let value = runs::value_for(writer, reported, access.cell);
+                handed[place] = value;
+            }
+            place += 1;
+        }
+        handed
+    }
+
     /// What step 1 comes to on job `j`, which stands so and is ready or not.
     fn speculation_change(self, j: usize, now: Standing, ready: bool) -> Change
         requires { ⌜ j < 128 ⌝ }

@@ -1,7 +1,7 @@
 -- `speculation_report` meets its contract: its tests, and the report stored.
 use borrow.Author.Needs.{needs}
-use Rattle.engine.proofs.in_place.speculation_report.Statement.{statement}
-use Rattle.engine.proofs.in_place.speculation_report.Tie as tie
+use Rattle.engine.proofs.change.speculation_report.Statement.{statement}
+use Rattle.engine.proofs.change.speculation_report.Tie as tie
 
 report-refusal-requires : tie.Need-report-refusal-requires
 report-refusal-requires c κs = search needs

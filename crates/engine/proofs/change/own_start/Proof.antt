@@ -1,7 +1,7 @@
 -- `own_start` meets its contract: its tests, and a run handed the present values.
 use borrow.Author.Needs.{needs}
-use Rattle.engine.proofs.in_place.own_start.Statement.{statement}
-use Rattle.engine.proofs.in_place.own_start.Tie as tie
+use Rattle.engine.proofs.change.own_start.Statement.{statement}
+use Rattle.engine.proofs.change.own_start.Tie as tie
 
 is-invalid-requires : tie.Need-is-invalid-requires
 is-invalid-requires c κs = search needs

@@ -1,7 +1,7 @@
 -- `own_report` meets its contract: its tests, and the report stored and written.
 use borrow.Author.Needs.{needs}
-use Rattle.engine.proofs.in_place.own_report.Statement.{statement}
-use Rattle.engine.proofs.in_place.own_report.Tie as tie
+use Rattle.engine.proofs.change.own_report.Statement.{statement}
+use Rattle.engine.proofs.change.own_report.Tie as tie
 
 report-refusal-requires : tie.Need-report-refusal-requires
 report-refusal-requires c κs = search needs

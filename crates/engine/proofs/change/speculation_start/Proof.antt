@@ -1,7 +1,7 @@
 -- `speculation_start` meets its contract: its tests, and the run as it will be.
 use borrow.Author.Needs.{needs}
-use Rattle.engine.proofs.in_place.speculation_start.Statement.{statement}
-use Rattle.engine.proofs.in_place.speculation_start.Tie as tie
+use Rattle.engine.proofs.change.speculation_start.Statement.{statement}
+use Rattle.engine.proofs.change.speculation_start.Tie as tie
 
 start-speculation-refusal-requires : tie.Need-start-speculation-refusal-requires
 start-speculation-refusal-requires c κs = search needs

@@ -1,7 +1,7 @@
 -- `asked_below` meets its contract.
 use borrow.Author.Tests.{ne-eqb}
-use Rattle.engine.proofs.in_place.asked_below.Statement.{statement}
-use Rattle.engine.proofs.in_place.asked_below.Tie as tie
+use Rattle.engine.proofs.change.asked_below.Statement.{statement}
+use Rattle.engine.proofs.change.asked_below.Tie as tie
 
 returns : tie.Need-returns
 returns c = rw (c .match .keys1)

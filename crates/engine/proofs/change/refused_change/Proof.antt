@@ -1,7 +1,7 @@
 -- `refused_change` meets its contract.
 use borrow.Author.Needs.{needs}
-use Rattle.engine.proofs.in_place.refused_change.Statement.{statement}
-use Rattle.engine.proofs.in_place.refused_change.Tie as tie
+use Rattle.engine.proofs.change.refused_change.Statement.{statement}
+use Rattle.engine.proofs.change.refused_change.Tie as tie
 
 blank-run-requires : tie.Need-blank-run-requires
 blank-run-requires c κs = search needs

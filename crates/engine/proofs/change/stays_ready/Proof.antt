@@ -1,7 +1,7 @@
 -- `stays_ready` meets its contract.
 use borrow.Author.Needs.{needs}
-use Rattle.engine.proofs.in_place.stays_ready.Statement.{statement}
-use Rattle.engine.proofs.in_place.stays_ready.Tie as tie
+use Rattle.engine.proofs.change.stays_ready.Statement.{statement}
+use Rattle.engine.proofs.change.stays_ready.Tie as tie
 
 waits-for-requires : tie.Need-waits-for-requires
 waits-for-requires c κs = search needs

@@ -1,7 +1,7 @@
 -- `commit_change` meets its contract: its tests, and the stored report written.
 use borrow.Author.Needs.{needs}
-use Rattle.engine.proofs.in_place.commit_change.Statement.{statement}
-use Rattle.engine.proofs.in_place.commit_change.Tie as tie
+use Rattle.engine.proofs.change.commit_change.Statement.{statement}
+use Rattle.engine.proofs.change.commit_change.Tie as tie
 
 is-invalid-requires : tie.Need-is-invalid-requires
 is-invalid-requires c κs = search needs
