@@ -3,3 +3,4 @@ pub mod Plan
 pub mod PlanLaws
 pub mod Layout
 pub mod Share
+pub mod Behind
