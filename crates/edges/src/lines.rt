@@ -30,6 +30,13 @@ pub fn number(name: &[u8], what: &[u8], n: u8) {
     say::line(b" = ", n);
 }
 
+/// A line whose answer is a set, as a word.
+pub fn word(name: &[u8], what: &[u8], w: u64) {
+    asked(name, what);
+    say::number(b" = ", w);
+    say::text(b"\n");
+}
+
 /// A line whose answer is a height.
 pub fn height(name: &[u8], what: &[u8], h: i32) {
     asked(name, what);

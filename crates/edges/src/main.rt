@@ -7,6 +7,7 @@ mod kind_edges;
 mod lines;
 mod pass_edges;
 mod ready_edges;
+mod survey_edges;
 
 fn main() {
     conflict_edges::accesses();
@@ -15,8 +16,11 @@ fn main() {
     conflict_edges::places_of_jobs();
     ready_edges::writers();
     ready_edges::readers();
-    pass_edges::flags_of_writers();
-    pass_edges::flags_of_counts();
+    survey_edges::words();
+    survey_edges::writers();
+    survey_edges::readers();
+    survey_edges::runs();
+    survey_edges::counts();
     pass_edges::chains_of_writers();
     pass_edges::chains_of_readers();
     pass_edges::chains_of_a_writer();

@@ -1,4 +1,4 @@
-//! The two passes over a list of jobs.
+//! The pass over a list of jobs.
 
 use crate::job;
 use crate::lines;
@@ -26,49 +26,6 @@ fn writer_and_readers() -> [dependence::Job; 128] {
     let mut jobs = [reader; 128];
     jobs[0] = writer;
     jobs
-}
-
-pub fn flags_of_writers() {
-    lines::heading(b"the pass for readiness, 128 jobs on one cell");
-    let mut settled = [0u8; 128];
-    let flags = passes::ready_flags(writers(), settled, 128);
-    lines::answer(b"ready_flags", b"writers, none settled, job 0", flags[0]);
-    lines::answer(b"ready_flags", b"writers, none settled, job 1", flags[1]);
-    lines::answer(
-        b"ready_flags",
-        b"writers, none settled, job 127",
-        flags[127],
-    );
-    settled[0] = 1;
-    let after = passes::ready_flags(writers(), settled, 128);
-    lines::answer(b"ready_flags", b"writers, job 0 settled, job 1", after[1]);
-    lines::answer(b"ready_flags", b"writers, job 0 settled, job 2", after[2]);
-    let mixed = passes::ready_flags(readers_and_writer(), settled, 128);
-    lines::answer(
-        b"ready_flags",
-        b"readers, then a writer, job 126",
-        mixed[126],
-    );
-    lines::answer(
-        b"ready_flags",
-        b"readers, then a writer, job 127",
-        mixed[127],
-    );
-}
-
-pub fn flags_of_counts() {
-    lines::heading(
-        b"the pass for readiness, all writers before job 127 settled, by the number of jobs",
-    );
-    let mut settled = [1u8; 128];
-    settled[127] = 0;
-    let none = passes::ready_flags(writers(), settled, 0);
-    lines::answer(b"ready_flags", b"0 jobs, job 0", none[0]);
-    let few = passes::ready_flags(writers(), settled, 127);
-    lines::answer(b"ready_flags", b"127 jobs, job 126", few[126]);
-    lines::answer(b"ready_flags", b"127 jobs, job 127", few[127]);
-    let many = passes::ready_flags(writers(), settled, 1000);
-    lines::answer(b"ready_flags", b"1000 jobs, job 127", many[127]);
 }
 
 pub fn chains_of_writers() {
