@@ -313,8 +313,9 @@ extern "C" {
  * before all others, 32 where it is out of form. */
 sorghemi_answer sorghemi_open(const int32_t *heights, size_t count);
 sorghemi_answer sorghemi_insert(sorghemi_batch batch, sorghemi_job job);
-/* Inserts the jobs of the list, one after the other, with the next numbers. The first job that is refused ends it: then none is
- * inserted. A count above 128 is no mistake of its own: the job that finds no place is refused with 3, if none before it is. */
+/* Inserts the jobs of the list, one after the other, with the next numbers (R25). The first job that is refused ends it: then
+ * none is inserted. A count above 128 is no mistake of its own: the job that finds no place is refused with 3, if none before
+ * it is. */
 sorghemi_inserted sorghemi_insert_all(sorghemi_batch *batch, const sorghemi_job_list *list);
 sorghemi_answer sorghemi_seal(sorghemi_batch batch, uint8_t guessing);
 /* The step with the number, 0 to 4, on the job. Steps 0, 1 and 4 do not look at the report. */

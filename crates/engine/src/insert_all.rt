@@ -42,9 +42,9 @@ fn first_refused(list: JobList, held: usize, cell_count: u8) -> FirstRefused
 }
 
 impl Batch {
-    /// Inserts the jobs of the list, one after the other. The first that is refused ends it: then nothing is
-    /// changed. Refused with 3 to 8 for a job, which is named by its place in the list, or with 32. Of more than 128 jobs one
-    /// is refused with 3, if none before it is refused.
+    /// R25: inserts the jobs of the list, one after the other. The first that is refused ends it: then nothing is changed.
+    /// Refused with 3 to 8 for a job, which is named by its place in the list, or with 32. Of more than 128 jobs one is refused
+    /// with 3, if none before it is refused.
     pub fn insert_all(mut self, list: JobList) -> InsertedAll
         ensures { λ r. ⌜ r ≡ insertedAll self (list .jobs) (list .count) ⌝ }
     {

@@ -6,7 +6,7 @@ use Rattle.engine.specs.declared.InsertedAll.{InsertedAll}
 use Rattle.engine.specs.InsertAll.{insertedAll}
 use Rattle.sorghemi.specs.declared.Inserted.{Inserted}
 
--- The jobs of the list inserted. Its batch is what stands in a lent record afterwards, refused or not.
+-- R25: the jobs of the list inserted. Its batch is what stands in a lent record afterwards, refused or not.
 abbrev pub listInserted : Batch → JobList → InsertedAll
 listInserted b list = insertedAll b (list .jobs) (list .count)
 

@@ -25,8 +25,8 @@ pub extern "C" fn sorghemi_insert(batch: Batch, job: Job) -> Answer
     batch.insert(job)
 }
 
-/// Inserts the jobs of the list that the host lends, one after the other, into a batch that it lends. The first that is refused
-/// ends it: then the batch is left as it was. Refused with 3 to 8 for the job `at` of the list, or with 32.
+/// R25: inserts the jobs of the list that the host lends, one after the other, into a batch that it lends. The first that is
+/// refused ends it: then the batch is left as it was. Refused with 3 to 8 for the job `at` of the list, or with 32.
 #[no_mangle]
 pub extern "C" fn sorghemi_insert_all(batch: &mut Batch, list: &JobList) -> Inserted
     ensures { λ r. ⌜ (now (batch .exit) ≡ listInserted (now (batch .entry)) (now (list .entry)) .batch) × (r ≡ toldOf (listInserted (now (batch .entry)) (now (list .entry)))) ⌝ }

@@ -159,7 +159,7 @@ impl Batch {
     }
 
     /// Inserts the jobs of the list, one after the other, in one call, and tells their numbers. The first that is refused ends it:
-    /// then no job is inserted. It costs one check of the record and not one for each job.
+    /// then no job is inserted (R25). It costs one check of the record and not one for each job.
     ///
     /// ```
     /// use sorghemi::{Batch, Job, Refusal, RefusedJob};
