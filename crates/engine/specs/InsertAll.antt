@@ -1,4 +1,4 @@
--- Inserting a list of jobs in one call: each in order, as R6 has it. The first that is refused ends it, and then nothing is changed.
+-- R25: inserting a list of jobs in one call, each in order, as R6 has it. The first that is refused ends it, and then nothing is changed.
 use Prim.Native.Nat.{ℕ, zero, suc, _+_}
 use mathlib.Core.Bool.{cond}
 use mathlib.Core.List.{List}

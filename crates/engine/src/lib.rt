@@ -59,6 +59,13 @@ pub struct Answer {
     pub batch: Batch,
 }
 
+/// A list of jobs: the first `count` of `jobs`, in their order. What stands after them means nothing.
+#[repr(C)]
+pub struct JobList {
+    pub count: usize,
+    pub jobs: [Job; 128],
+}
+
 /// What inserting a list answers: 0, or the number of the refusal and which job of the list it was, and the batch.
 #[repr(C)]
 pub struct InsertedAll {

@@ -16,12 +16,12 @@ use Rattle.engine.proofs.Batch.insert_all.Tie as tie
 
 -- the answer is the batch with the jobs left
 abbrev Inv-loop : tie.InvT-loop
-Inv-loop count self₀ jobs formed run k₀ self k =
-    (k ≤ count) × (count ≤ 128) × (run ≡ blankRun) × (self .«job_count» + (count - k) ≤ 128)
-    × (insertedAll self₀ jobs count ≡ record { refusal = 0; at = 0; batch = withFrom self jobs k (count - k) })
+Inv-loop self₀ list formed run k₀ self k =
+    (k ≤ list .count) × (list .count ≤ 128) × (run ≡ blankRun) × (self .«job_count» + (list .count - k) ≤ 128)
+    × (insertedAll self₀ (list .jobs) (list .count) ≡ record { refusal = 0; at = 0; batch = withFrom self (list .jobs) k (list .count - k) })
 
 abbrev μ-loop : tie.MeasureT-loop
-μ-loop count self₀ jobs formed run k₀ self k = count - k
+μ-loop self₀ list formed run k₀ self k = list .count - k
 
 is-in-form-requires : tie.Need-is-in-form-requires Inv-loop μ-loop
 is-in-form-requires c κs = search needs
@@ -30,7 +30,7 @@ is-in-form-requires c κs = search needs
 returns : tie.Need-returns Inv-loop μ-loop
 returns c =
     let a = c .before .before .args in
-    sym (all-out-of-form (a .t1) (a .t2) (a .count) (sym (c .before .is-in-form .ensures) ∙ not-true _ (c .if1 .taken)))
+    sym (all-out-of-form (a .t1) (a .t2 .jobs) (a .t2 .count) (sym (c .before .is-in-form .ensures) ∙ not-true _ (c .if1 .taken)))
 
 cast-first-refused : tie.Need-cast-first-refused Inv-loop μ-loop
 cast-first-refused c = omega arith
@@ -54,7 +54,7 @@ returns-2 c =
       running-length = search needs;
       phase-length = search needs;
     } in
-    sym (all-refused (a .t1) (a .t2) (a .count) form sized (c .before .before .first-refused .ensures) (c .if2 .taken))
+    sym (all-refused (a .t1) (a .t2 .jobs) (a .t2 .count) form sized (c .before .before .first-refused .ensures) (c .if2 .taken))
 
 blank-run-requires : tie.Need-blank-run-requires Inv-loop μ-loop
 blank-run-requires c κs = search needs
@@ -74,16 +74,16 @@ loop-holds c =
       phase-length = search needs;
     } in
     let looked = c .before .before .before .first-refused .ensures in
-    let room = all-room (a .t1) (a .t2) (a .count) form sized looked (c .before .if2 .left) in
-    let accepted = all-accepted (a .t1) (a .t2) (a .count) form sized looked (c .before .if2 .left) in
-    let e : a .count - 0 ≡ a .count = omega arith in
+    let room = all-room (a .t1) (a .t2 .jobs) (a .t2 .count) form sized looked (c .before .if2 .left) in
+    let accepted = all-accepted (a .t1) (a .t2 .jobs) (a .t2 .count) form sized looked (c .before .if2 .left) in
+    let e : a .t2 .count - 0 ≡ a .t2 .count = omega arith in
     (omega arith, omega (arith, room), c .blank-run .ensures, omega (arith, room), rw e accepted)
 
 mul-job : tie.Need-mul-job Inv-loop μ-loop
 mul-job c = omega arith
 
-array-copy-out-job : tie.Need-array-copy-out-job Inv-loop μ-loop
-array-copy-out-job c = omega arith
+element-copy-out-job : tie.Need-element-copy-out-job Inv-loop μ-loop
+element-copy-out-job c = omega arith
 
 cast-n : tie.Need-cast-n Inv-loop μ-loop
 cast-n c = omega arith
@@ -124,7 +124,7 @@ unfolding withInserted
 loop-again c =
     let l = c .before .before .loop in
     let a = c .before .before .before .before .before .before .before .before .before .args in
-    let more = fill-more (l .self) (a .t2) (l .k) (a .count) (c .before .loop-test .taken) in
+    let more = fill-more (l .self) (a .t2 .jobs) (l .k) (a .t2 .count) (c .before .loop-test .taken) in
     (omega arith, l .inv .1, l .inv .2, omega (arith, l .inv .3), rw (l .inv .2) (l .inv .4 ∙ rw more))
 
 -- all filled
@@ -132,8 +132,8 @@ returns-3 : tie.Need-returns-3 Inv-loop μ-loop
 returns-3 c =
     let l = c .before .loop in
     let a = c .before .before .before .before .before .before .before .before .args in
-    let e : a .count - l .k ≡ 0 = omega arith in
-    sym (l .inv .4 ∙ rw (e, fill-none (l .self) (a .t2) (l .k)))
+    let e : a .t2 .count - l .k ≡ 0 = omega arith in
+    sym (l .inv .4 ∙ rw (e, fill-none (l .self) (a .t2 .jobs) (l .k)))
 
 pub insert-all-spec : {M : Type 1} → statement M
 insert-all-spec =
@@ -149,7 +149,7 @@ insert-all-spec =
     blank-run-requires
     loop-holds
     mul-job
-    array-copy-out-job
+    element-copy-out-job
     cast-n
     mul-job-2
     element-set-from-job

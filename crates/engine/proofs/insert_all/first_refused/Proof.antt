@@ -9,23 +9,23 @@ use Rattle.engine.proofs.insert_all.first_refused.Tie as tie
 
 -- what the jobs left decide is what all decide
 abbrev Inv-loop : tie.InvT-loop
-Inv-loop count held cell-count jobs k₀ k =
-    (k ≤ count) × (held + k ≤ 128)
-    × (refusedFrom held cell-count jobs 0 count ≡ refusedFrom held cell-count jobs k (count - k))
+Inv-loop held cell-count list k₀ k =
+    (k ≤ list .count) × (held + k ≤ 128)
+    × (refusedFrom held cell-count (list .jobs) 0 (list .count) ≡ refusedFrom held cell-count (list .jobs) k (list .count - k))
 
 abbrev μ-loop : tie.MeasureT-loop
-μ-loop count held cell-count jobs k₀ k = count - k
+μ-loop held cell-count list k₀ k = list .count - k
 
 loop-holds : tie.Need-loop-holds Inv-loop μ-loop
 loop-holds c =
-    let e : c .args .count - 0 ≡ c .args .count = omega arith in
+    let e : c .args .t1 .count - 0 ≡ c .args .t1 .count = omega arith in
     (omega arith, omega arith, rw e)
 
 add-if1 : tie.Need-add-if1 Inv-loop μ-loop
 add-if1 c = omega arith
 
-cast-t11 : tie.Need-cast-t11 Inv-loop μ-loop
-cast-t11 c = omega arith
+cast-t10 : tie.Need-cast-t10 Inv-loop μ-loop
+cast-t10 c = omega arith
 
 -- 128 jobs are held
 returns : tie.Need-returns Inv-loop μ-loop
@@ -34,13 +34,13 @@ returns c =
     let a = l .before .args in
     sym
     (l .loop .inv .2
-    ∙ look-full (a .held) (a .cell-count) (a .t1) (l .loop .k) (a .count) (c .before .loop-test .taken) (c .if1 .taken))
+    ∙ look-full (a .held) (a .cell-count) (a .t1 .jobs) (l .loop .k) (a .t1 .count) (c .before .loop-test .taken) (c .if1 .taken))
 
 mul-job : tie.Need-mul-job Inv-loop μ-loop
 mul-job c = omega arith
 
-array-copy-out-job : tie.Need-array-copy-out-job Inv-loop μ-loop
-array-copy-out-job c = omega arith
+element-copy-out-job : tie.Need-element-copy-out-job Inv-loop μ-loop
+element-copy-out-job c = omega arith
 
 is-refused-requires : tie.Need-is-refused-requires Inv-loop μ-loop
 is-refused-requires c κs = search needs
@@ -48,8 +48,8 @@ is-refused-requires c κs = search needs
 job-refusal-requires : tie.Need-job-refusal-requires Inv-loop μ-loop
 job-refusal-requires c κs = search needs
 
-cast-t16 : tie.Need-cast-t16 Inv-loop μ-loop
-cast-t16 c = omega arith
+cast-t15 : tie.Need-cast-t15 Inv-loop μ-loop
+cast-t15 c = omega arith
 
 -- the job is refused
 returns-2 : tie.Need-returns-2 Inv-loop μ-loop
@@ -60,7 +60,7 @@ returns-2 c =
     rw (c .job-refusal .ensures)
     (sym
     (l .loop .inv .2
-    ∙ look-refused (a .held) (a .cell-count) (a .t1) (l .loop .k) (a .count) (t .loop-test .taken)
+    ∙ look-refused (a .held) (a .cell-count) (a .t1 .jobs) (l .loop .k) (a .t1 .count) (t .loop-test .taken)
     (c .before .before .before .before .if1 .left) (sym (c .before .before .is-refused .ensures) ∙ c .before .if2 .taken)))
 
 add-k : tie.Need-add-k Inv-loop μ-loop
@@ -78,7 +78,7 @@ loop-again c =
       omega arith,
       omega arith,
       l .loop .inv .2
-          ∙ look-more (a .held) (a .cell-count) (a .t1) (l .loop .k) (a .count) (t .loop-test .taken) (c .before .before .before .if1 .left)
+          ∙ look-more (a .held) (a .cell-count) (a .t1 .jobs) (l .loop .k) (a .t1 .count) (t .loop-test .taken) (c .before .before .before .if1 .left)
           (sym (c .before .is-refused .ensures) ∙ c .if2 .left),
     )
 
@@ -87,8 +87,8 @@ returns-3 : tie.Need-returns-3 Inv-loop μ-loop
 returns-3 c =
     let l = c .before in
     let a = l .before .args in
-    let e : a .count - l .loop .k ≡ 0 = omega arith in
-    sym (l .loop .inv .2 ∙ rw e (look-none (a .held) (a .cell-count) (a .t1) (l .loop .k)))
+    let e : a .t1 .count - l .loop .k ≡ 0 = omega arith in
+    sym (l .loop .inv .2 ∙ rw e (look-none (a .held) (a .cell-count) (a .t1 .jobs) (l .loop .k)))
 
 pub first-refused-spec : {M : Type 1} → statement M
 first-refused-spec =
@@ -98,13 +98,13 @@ first-refused-spec =
     μ-loop
     loop-holds
     add-if1
-    cast-t11
+    cast-t10
     returns
     mul-job
-    array-copy-out-job
+    element-copy-out-job
     is-refused-requires
     job-refusal-requires
-    cast-t16
+    cast-t15
     returns-2
     add-k
     loop-less
