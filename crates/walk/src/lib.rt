@@ -11,6 +11,7 @@ use dependence::Job;
 use jobset::JobSet;
 
 pub mod nearest;
+pub mod origins;
 
 /// Whether the job's access at place `i` is to the cell and counts as one of the mode.
 fn writes_at(job: Job, cell: u8, mode: u8, i: usize) -> bool
