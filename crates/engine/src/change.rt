@@ -7,6 +7,7 @@ ghost use mathlib.Core.Bool.{not, _&&_};
 ghost use lib.Dec.{eqb};
 ghost use Prim.Native.Nat.{_<_};
 ghost use Rattle.dependence.specs.Ready.{waitsFor};
+ghost use Rattle.walk.specs.Origins.{AllPlain};
 ghost use Rattle.rules.specs.Values.{four};
 ghost use Rattle.rules.specs.Speculation.{sourceMissing};
 ghost use Rattle.engine.specs.Record.{snapshotOf};
@@ -30,6 +31,7 @@ use crate::steps::start_own_refusal;
 use crate::steps::start_speculation_refusal;
 use dependence::Job;
 use jobset::JobSet;
+use walk::origins::Origins;
 
 /// How a job stands: how it was committed, whether its own run is out, and the phase of its speculative one.
 pub struct Standing {
@@ -245,18 +247,19 @@ impl Batch {
 
     /// What step 1 comes to on job `j`, which stands so and is ready or not.
     fn speculation_change(self, j: usize, now: Standing, ready: bool) -> Change
-        requires { ⌜ j < 128 ⌝ }
+        requires { ⌜ (j < 128) × AllPlain (self .jobs) j ⌝ }
         ensures { λ r. ⌜ r ≡ speculationStart (not (eqb (self .speculating) 0)) now (self .cells) ready (sourceMissing (snapshotOf self) j) (guessAt self j) ⌝ }
     {
         let jobs = self.jobs;
         let committed = self.committed;
         let job = self.jobs[j];
         let cells = self.cells;
-        let sources = walk::sources(jobs, committed, j);
+        let origins = Origins::of(jobs, committed, j);
+        let sources = origins.sources;
         let missing = unusable_any(sources, &self.phase);
         let presumed = runs::presumed_values(job, cells);
         let handed = self.forwarded_values(job, presumed, sources);
-        let bypassed = walk::bypassed_by(jobs, committed, j);
+        let bypassed = origins.bypassed;
         let guess = new_run(handed, sources, bypassed);
         let on = self.speculating != 0;
         speculation_start(on, now, cells, ready, missing, guess)

@@ -9,6 +9,8 @@ use Rattle.laws.specs.Search.{anyBelow}
 use Rattle.laws.specs.SearchLaws.{any-none, passed, missed}
 use Rattle.dependence.specs.Ready.{blocks}
 use Rattle.engine.specs.Change.{askedBelow, changeFor, changeOn}
+use Rattle.walk.specs.Origins.{AllPlain}
+use Rattle.engine.specs.FormLaws.{form-walks}
 use Rattle.engine.specs.ChangeLaws.{still-none, plain-made, guess-made, out-of-form-refused, no-step-refused, unsealed-refused, no-job-refused, change-made, asked-le}
 use Rattle.engine.specs.FormPass.{StatesIn, refusedAt, runOutAt, few-jobs, states-in, counts-out-of-form, committed-out-of-form, running-out-of-form, phase-out-of-form, refused-out-of-form, run-out-of-form, all-seen}
 use Rattle.engine.proofs.Batch.change_for.Statement.{statement}
@@ -35,7 +37,7 @@ abbrev μ-loop2 : tie.MeasureT-loop2
 abbrev Inv-loop3 : tie.InvT-loop3
 Inv-loop3 number j report self n i k job held present committed running phase before far ready₀ m₀ ready m =
     (m ≤ far) × (far ≤ j) × (j < 128) × (far ≡ askedBelow number j) × (ready ≡ not (anyBelow m (blocks (self .jobs) (self .committed) j)))
-    × (changeFor self number j report ≡ changeOn self number j report)
+    × (changeFor self number j report ≡ changeOn self number j report) × AllPlain (self .jobs) j
 
 abbrev μ-loop3 : tie.MeasureT-loop3
 μ-loop3 number j report self n i k job held present committed running phase before far ready₀ m₀ ready m = far - m
@@ -274,6 +276,7 @@ loop3-holds c =
       c .asked-below .ensures,
       ap not (sym (any-none _)),
       change-made (a .t1) (a .number) (a .j) (a .report) form (e .before .before .if7 .left) (ne-eqb _ _ (e .before .if8 .left)) (rw (← i .2) (e .if9 .left)),
+      form-walks (a .t1) form (a .j) (rw (← i .2) (e .if9 .left)),
     )
 
 mul-earlier : tie.Need-mul-earlier Inv-loop μ-loop Inv-loop2 μ-loop2 Inv-loop3 μ-loop3
@@ -305,10 +308,10 @@ loop3-less c = omega arith
 loop3-again : tie.Need-loop3-again Inv-loop μ-loop Inv-loop2 μ-loop2 Inv-loop3 μ-loop3
 loop3-again c =
     let l = c .before .before .before .before .loop3 in
-    (omega arith, l .inv .1, l .inv .2, l .inv .3, c .stays-ready .ensures ∙ rw (l .inv .4) (still-none (l .m) _), l .inv .5)
+    (omega arith, l .inv .1, l .inv .2, l .inv .3, c .stays-ready .ensures ∙ rw (l .inv .4) (still-none (l .m) _), l .inv .5, l .inv .6)
 
 speculation-change-requires : tie.Need-speculation-change-requires Inv-loop μ-loop Inv-loop2 μ-loop2 Inv-loop3 μ-loop3
-speculation-change-requires c κs = c .before .before .loop3 .inv .2
+speculation-change-requires c κs = let l = c .before .before .loop3 in (l .inv .2, l .inv .6)
 
 -- a guess
 returns-10 : tie.Need-returns-10 Inv-loop μ-loop Inv-loop2 μ-loop2 Inv-loop3 μ-loop3

@@ -1,5 +1,7 @@
 -- `Batch::speculation_change` meets its contract: where the values come from, and the run that is handed them.
 use native.Mathlib.Omega.{arith}
+use mathlib.Core.Path.{ap}
+use Rattle.walk.specs.declared.origins.Origins.{Origins}
 use Rattle.engine.specs.SourceLimit.{sources-held, missing-is}
 use borrow.Author.Needs.{needs}
 use Rattle.engine.proofs.Batch.speculation_change.Statement.{statement}
@@ -11,8 +13,8 @@ mul-job c = search needs
 element-copy-out-job : tie.Need-element-copy-out-job
 element-copy-out-job c = search needs
 
-sources-requires : tie.Need-sources-requires
-sources-requires c κs = search needs
+of-requires : tie.Need-of-requires
+of-requires c κs = c .before .before .before .before .pre
 
 unusable-any-requires : tie.Need-unusable-any-requires
 unusable-any-requires c κs = search needs
@@ -22,12 +24,9 @@ presumed-values-requires c κs = search needs
 
 forwarded-values-requires : tie.Need-forwarded-values-requires
 forwarded-values-requires c κs =
-    let sources = c .before .before .before .before in
-    let a = sources .before .before .before .before .before .args in
-    sources-held (a .t1 .jobs) (a .t1 .committed) (a .j) (sources .sources .result) (omega arith) (sources .sources .ensures)
-
-bypassed-by-requires : tie.Need-bypassed-by-requires
-bypassed-by-requires c κs = search needs
+    let from = c .before .before .before .before .before in
+    let a = from .before .before .before .before .before .args in
+    sources-held (a .t1 .jobs) (a .t1 .committed) (a .j) (from .of .result .sources) (omega arith) (ap (λ (x : Origins). x .sources) (from .of .ensures))
 
 new-run-requires : tie.Need-new-run-requires
 new-run-requires c κs = search needs
@@ -38,20 +37,19 @@ speculation-start-requires c κs = search needs
 returns : tie.Need-returns
 returns c =
     let guess = c .before in
-    let bypassed = guess .before in
-    let values = bypassed .before in
+    let values = guess .before .before in
     let missing = values .before .before in
-    let sources = missing .before .before .before in
-    let a = sources .before .before .before .before .before .args in
+    let from = missing .before .before .before .before in
+    let a = from .before .before .before .before .before .args in
+    let sources = ap (λ (x : Origins). x .sources) (from .of .ensures) in
     rw (
       c .speculation-start .ensures,
       missing .unusable-any .ensures,
-      missing-is (a .t1) (a .j) (sources .sources .result) (sources .sources .ensures),
+      missing-is (a .t1) (a .j) (from .of .result .sources) sources,
       guess .new-run .ensures,
-      bypassed .bypassed-by .ensures,
       values .forwarded-values .ensures,
       values .before .presumed-values .ensures,
-      sources .sources .ensures,
+      from .of .ensures,
     )
 
 pub speculation-change-spec : {M : Type 1} → statement M
@@ -60,11 +58,10 @@ speculation-change-spec =
     (tie.spec
     mul-job
     element-copy-out-job
-    sources-requires
+    of-requires
     unusable-any-requires
     presumed-values-requires
     forwarded-values-requires
-    bypassed-by-requires
     new-run-requires
     speculation-start-requires
     returns)
