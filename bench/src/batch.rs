@@ -95,6 +95,9 @@ impl Random {
 /// what differs between the sizes is the size.
 const SEED: u64 = 15;
 
+/// How many jobs the batch has where its size is not what is measured.
+pub const JOBS: usize = 128;
+
 #[derive(Clone, Debug, PartialEq, Eq)]
 pub struct Batch {
     pub heights: Vec<i32>,

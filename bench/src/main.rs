@@ -19,13 +19,12 @@ mod table;
 
 use std::time::Duration;
 
-use batch::Batch;
+use batch::{Batch, JOBS};
 use drive::{Drive, CALLS, CHOOSE, INSERT, SEAL};
 use measure::{nanoseconds, samples, Clock, Figure};
 use stack::Stack;
 use subject::{subjects, Subject};
 
-const JOBS: usize = 128;
 const SIZES: [usize; 4] = [16, 32, 64, 128];
 
 /// The rows are sampled in turns, so that a busy spell of the machine does not

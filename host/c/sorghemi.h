@@ -1,10 +1,10 @@
 /* The batch engine for hosts in C: a batch record that the host owns, and functions over it.
  *
  * Every function of the library takes the record by value and hands the changed one back with its answer, but for
- * sorghemi_step, to which the host lends its record. An answer's `refusal` is SORGHEMI_ACCEPTED or the number of a
- * refusal, and a refused call changes nothing. Functions here that begin with sorghemi_batch_ do the same on a record
- * behind a pointer. What the calls do is said in docs/RULES.md, and what a host with threads has to know in
- * host/README.md.
+ * sorghemi_step and sorghemi_insert_all, to which the host lends its record. An answer's `refusal` is SORGHEMI_ACCEPTED
+ * or the number of a refusal, and a refused call changes nothing. Functions here that begin with sorghemi_batch_ do the
+ * same on a record behind a pointer. What the calls do is said in docs/RULES.md, and what a host with threads has to know
+ * in host/README.md.
  *
  * Stack: a step touches 109 KB, no other call on a batch more, and the answer to a plan 146 KB (host/README.md has the
  * figures). A thread with 256 KiB has enough.
@@ -167,6 +167,12 @@ typedef struct {
     uint8_t phase[128];     /* the state of the job's guess */
 } sorghemi_batch;
 
+/* A list of jobs to insert: the first `count` places of `jobs` are in use, and what stands in the others is never looked at. */
+typedef struct {
+    size_t count;
+    sorghemi_job jobs[128];
+} sorghemi_job_list;
+
 /* What a call that is accepted changes of the record, and nothing else changes (R94 of docs/RULES.md):
  * insert: the job comes into the first place not in use, with zeros in its run and in the other columns; job_count grows.
  * seal: sealed becomes 1, speculating what the host says.
@@ -199,6 +205,13 @@ typedef struct {
     uint8_t refusal;
     sorghemi_batch batch;
 } sorghemi_answer;
+
+/* What inserting a list into a lent record answers: of a refused list also the place of the job that is refused, 0 for the
+ * first. `at` is 0 where the list is accepted, and with 32. */
+typedef struct {
+    uint8_t refusal;
+    uint8_t at;
+} sorghemi_inserted;
 
 /* What the chooser names: a step, its job, and the length of the job's chain, which is the longest list of jobs from it on in which
    each names a cell that the one before it may write. Zeros where it is refused. */
@@ -295,11 +308,15 @@ typedef struct {
 extern "C" {
 #endif
 
-/* The library. Refusals: open 1; insert 3 to 8; seal 2, 9; a step 10 to 18, and 21 for a number above 4; choose 10, 19;
- * ask_cell 5; ask_job and ask_speculation 11; copy_out 20; total 23; and of the calls that take a record, before all
- * others, 32 where it is out of form. */
+/* The library. Refusals: open 1; insert and insert_all 3 to 8; seal 2, 9; a step 10 to 18, and 21 for a number above 4;
+ * choose 10, 19; ask_cell 5; ask_job and ask_speculation 11; copy_out 20; total 23; and of the calls that take a record,
+ * before all others, 32 where it is out of form. */
 sorghemi_answer sorghemi_open(const int32_t *heights, size_t count);
 sorghemi_answer sorghemi_insert(sorghemi_batch batch, sorghemi_job job);
+/* Inserts the jobs of the list, one after the other, with the next numbers (R25). The first job that is refused ends it: then
+ * none is inserted. A count above 128 is no mistake of its own: the job that finds no place is refused with 3, if none before
+ * it is. */
+sorghemi_inserted sorghemi_insert_all(sorghemi_batch *batch, const sorghemi_job_list *list);
 sorghemi_answer sorghemi_seal(sorghemi_batch batch, uint8_t guessing);
 /* The step with the number, 0 to 4, on the job. Steps 0, 1 and 4 do not look at the report. */
 sorghemi_handed sorghemi_step(sorghemi_batch *batch, uint8_t number, size_t job, sorghemi_report report);
@@ -333,7 +350,7 @@ uint32_t sorghemi_layout(size_t place);
 /* The same list as this header has it: a version, then of each struct its size and the offsets of its fields. */
 #define SORGHEMI_AT(type, field) ((uint32_t)offsetof(type, field))
 static const uint32_t sorghemi_header_layout[] = {
-    5,
+    6,
     sizeof(sorghemi_batch), SORGHEMI_AT(sorghemi_batch, cell_count), SORGHEMI_AT(sorghemi_batch, job_count),
     SORGHEMI_AT(sorghemi_batch, sealed), SORGHEMI_AT(sorghemi_batch, speculating), SORGHEMI_AT(sorghemi_batch, cells),
     SORGHEMI_AT(sorghemi_batch, jobs), SORGHEMI_AT(sorghemi_batch, runs), SORGHEMI_AT(sorghemi_batch, committed),
@@ -373,6 +390,8 @@ static const uint32_t sorghemi_header_layout[] = {
     SORGHEMI_AT(sorghemi_set_answer, lowest),
     sizeof(sorghemi_speculation_answer), SORGHEMI_AT(sorghemi_speculation_answer, refusal),
     SORGHEMI_AT(sorghemi_speculation_answer, bypassed), SORGHEMI_AT(sorghemi_speculation_answer, open),
+    sizeof(sorghemi_job_list), SORGHEMI_AT(sorghemi_job_list, count), SORGHEMI_AT(sorghemi_job_list, jobs),
+    sizeof(sorghemi_inserted), SORGHEMI_AT(sorghemi_inserted, refusal), SORGHEMI_AT(sorghemi_inserted, at),
 };
 #undef SORGHEMI_AT
 

@@ -1,11 +1,14 @@
 //! Admission: which jobs may be inserted into a batch, as far as the job and the number of cells decide it.
 
 ghost use mathlib.Core.Path.{_≡_};
-ghost use mathlib.Core.Bool.{_||_};
+ghost use mathlib.Core.Bool.{not, _||_};
 ghost use Prim.Native.Nat.{_<_, _≤_};
 ghost use Rattle.laws.specs.Search.{anyBelow};
 ghost use Rattle.laws.specs.Refusal.{firstOf};
+ghost use lib.Dec.{eqb};
 ghost use Rattle.admission.specs.Admission.{cellBefore, faultsAt, firstModes, kindFits, refusals, jobRefusal};
+ghost use Rattle.admission.specs.ByKind.{accessOut, oneRefused, twoRefused, threeRefused};
+use dependence::Access;
 use dependence::Job;
 use dependence::PREDICTED_WRITE;
 use dependence::READ;
@@ -151,4 +154,87 @@ pub fn job_refusal(job: Job, cell_count: u8) -> u8
     let repeated = any4(a.repeated, b.repeated, c.repeated, d.repeated);
     let fits = kind_fits(job);
     refusal_of(job.arity, cell, mode, repeated, fits)
+}
+
+/// Whether the access has another mode than the one given, or a cell that is not one of the first `cell_count`.
+fn access_out(access: Access, cell_count: u8, mode: u8) -> bool
+    ensures { λ r. ⌜ r ≡ accessOut access «cell_count» mode ⌝ }
+{
+    if access.mode != mode {
+        return true;
+    }
+    cell_count <= access.cell
+}
+
+/// Whether a job whose kind has one access, of the mode given, is refused.
+fn one_refused(job: Job, cell_count: u8, mode: u8) -> bool
+    ensures { λ r. ⌜ r ≡ oneRefused job «cell_count» mode ⌝ }
+{
+    if job.arity != 1 {
+        return true;
+    }
+    let access = job.accesses[0];
+    access_out(access, cell_count, mode)
+}
+
+/// The same for two accesses.
+fn two_refused(job: Job, cell_count: u8, first: u8, second: u8) -> bool
+    ensures { λ r. ⌜ r ≡ twoRefused job «cell_count» first second ⌝ }
+{
+    if job.arity != 2 {
+        return true;
+    }
+    let a = job.accesses[0];
+    if access_out(a, cell_count, first) {
+        return true;
+    }
+    let b = job.accesses[1];
+    if access_out(b, cell_count, second) {
+        return true;
+    }
+    a.cell == b.cell
+}
+
+/// The same for three accesses.
+fn three_refused(job: Job, cell_count: u8, first: u8, second: u8, third: u8) -> bool
+    ensures { λ r. ⌜ r ≡ threeRefused job «cell_count» first second third ⌝ }
+{
+    if job.arity != 3 {
+        return true;
+    }
+    let a = job.accesses[0];
+    if access_out(a, cell_count, first) {
+        return true;
+    }
+    let b = job.accesses[1];
+    if access_out(b, cell_count, second) {
+        return true;
+    }
+    let c = job.accesses[2];
+    if access_out(c, cell_count, third) {
+        return true;
+    }
+    if a.cell == b.cell {
+        return true;
+    }
+    if a.cell == c.cell {
+        return true;
+    }
+    b.cell == c.cell
+}
+
+/// Whether the job is refused, and not why: a kind other than 0 has accesses of known modes, and leaves only the cells to test.
+pub fn is_refused(job: Job, cell_count: u8) -> bool
+    ensures { λ r. ⌜ r ≡ not (eqb (jobRefusal job «cell_count») 0) ⌝ }
+{
+    let kind = job.kind;
+    match kind {
+        1 => one_refused(job, cell_count, WRITE),
+        2 => one_refused(job, cell_count, WRITE),
+        3 => two_refused(job, cell_count, UNCERTAIN_WRITE, READ),
+        4 => one_refused(job, cell_count, UNCERTAIN_WRITE),
+        5 => three_refused(job, cell_count, WRITE, READ, READ),
+        6 => two_refused(job, cell_count, UNCERTAIN_WRITE, UNCERTAIN_WRITE),
+        _ => job_refusal(job, cell_count) != 0,
+    }
 }

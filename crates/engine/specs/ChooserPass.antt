@@ -7,24 +7,21 @@ use mathlib.Core.Logic.{⊎-elim}
 use mathlib.Core.Bool.{Bool, true, false, cond, not, _&&_}
 use mathlib.Core.List.{List}
 use mathlib.Core.Path.{_≡_, refl, sym, ap, _∙_}
-use lib.Dec.{eqb, leb, ltb}
+use lib.Dec.{eqb, ltb}
 use lib.ListN.{length, getD, set, drop, length-set}
 use lib.Seq.{getD-set-same, getD-set-other, getD-drop}
-use borrow.Author.Tests.{eqb-true, eq-eqb, ne-eqb, ltb-true, ltb-false, leb-false, not-false}
+use borrow.Author.Tests.{eqb-true, eq-eqb, ne-eqb, ltb-true, ltb-false}
 use Rattle.laws.specs.Search.{anyBelow}
-use Rattle.laws.specs.SearchLaws.{any-find, any-fails, if-or, clash, not-true, or-left}
+use Rattle.laws.specs.SearchLaws.{any-find, any-fails, if-or, clash}
 use Rattle.laws.specs.Fold.{flag, column}
 use Rattle.laws.specs.FoldLaws.{column-at}
-use Rattle.dependence.specs.Job.{inUse, accessAt, jobAt}
-use Rattle.admission.specs.Admission.{jobRefusal}
-use Rattle.admission.specs.AdmissionLaws.{admitted-cell}
+use Rattle.dependence.specs.Job.{jobAt}
 use Rattle.passes.specs.Chain.{chainLengthAt}
 use Rattle.rules.specs.Snapshot.{isLive}
 use Rattle.rules.specs.Call.{Call, startOwn, startSpeculation, commit}
 use Rattle.cellset.specs.declared.Cells.{Cells}
 use Rattle.cellset.specs.declared.survey.Seen.{Seen}
 use Rattle.cellset.specs.Cells.{cellsOf}
-use Rattle.cellset.specs.ConflictWords.{Within}
 use Rattle.cellset.specs.Survey.{columns, allowedAt, seenBelow, Surveyed}
 use Rattle.cellset.specs.SurveyLaws.{Tells}
 use Rattle.cellset.specs.AllowedLaws.{told-commit, told-own, told-speculation}
@@ -32,8 +29,8 @@ use Rattle.engine.specs.declared.Batch.{Batch}
 use Rattle.engine.specs.declared.Choice.{Choice}
 use Rattle.engine.specs.declared.chooser.Pick.{Pick}
 use Rattle.engine.specs.Record.{snapshotOf}
-use Rattle.engine.specs.Form.{jobOut, inForm}
-use Rattle.engine.specs.FormLaws.{form-counts, form-job}
+use Rattle.engine.specs.Form.{inForm}
+use Rattle.engine.specs.FormLaws.{form-counts, form-plain}
 use Rattle.engine.specs.InvalidRun.{runStale, live-stale}
 use Rattle.engine.specs.Chooser.{allows, better, noPick, pickBelow, chainAt, arityAt, pickFor, refused, named, chosen}
 use Rattle.engine.specs.ChooserLaws.{pick-best, none-picked, chosen-4, chosen-0, chosen-1, chosen-19}
@@ -128,16 +125,6 @@ module _ (b : Batch) where
       differs = filled-more (openAt b) (staleFlag b) n stale told h f (so-far .differs);
     }
 
-  -- A record in form names no cell past the last bit.
-  form-within : inForm b ≡ true → (i : ℕ) → i < b .«job_count» → Within (jobAt (b .jobs) i)
-  unfolding jobOut
-  form-within form i h place l used =
-      let job = jobAt (b .jobs) i in
-      let refused = jobRefusal job (b .«cell_count») in
-      let admitted = eqb-true refused 0 (not-false (eqb refused 0) (or-left (not (eqb refused 0)) _ (form-job b form i h))) in
-      let inside = admitted-cell job (b .«cell_count») admitted place (leb-false (job .arity) place (not-true (leb (job .arity) place) used)) in
-      omega (arith, inside, form-counts b form .few-cells)
-
   -- So the columns tell of the record.
   pub columned-tells : inForm b ≡ true → (named written sure back arities stale : List ℕ)
       → Columned b (b .«job_count») named written sure back arities stale
@@ -148,7 +135,7 @@ module _ (b : Batch) where
     phases = λ i. refl;
     cells = λ i h e. rw (all .names .at i h e, all .writes .at i h e, all .surely .at i h e, all .looks .at i h e);
     stale = λ i h e. rw (all .differs .at i h e) (flagged (isLive (getD (b .phase) i 0) && runStale b i) ∙ live-stale b i);
-    within = form-within form;
+    within = λ i h. form-plain b form i h .within;
   }
     where
       flagged : (t : Bool) → not (eqb (flag t) 0) ≡ t

@@ -1,12 +1,17 @@
 -- What a record in form promises, for the entries.
 use Prim.Native.Nat.{ℕ, _<_, _≤_}
 use native.Mathlib.Omega.{arith}
-use mathlib.Core.Bool.{true, false, _||_}
+use mathlib.Core.Bool.{true, false, not, _||_}
 use mathlib.Core.Path.{_≡_}
-use lib.Dec.{eqb, ltb}
-use borrow.Author.Tests.{ltb-false, eqb-false}
+use lib.Dec.{eqb, leb, ltb}
+use borrow.Author.Tests.{ltb-false, leb-false, eqb-true, eqb-false, not-false}
 use Rattle.laws.specs.Search.{anyBelow}
 use Rattle.laws.specs.SearchLaws.{any-fails, or-left, or-right, not-true}
+use Rattle.dependence.specs.declared.Job.{Job}
+use Rattle.dependence.specs.Job.{inUse, jobAt}
+use Rattle.admission.specs.Admission.{jobRefusal}
+use Rattle.admission.specs.AdmissionLaws.{admitted-cell, admitted-mode}
+use Rattle.walk.specs.Origins.{Plain, AllPlain}
 use Rattle.engine.specs.declared.Batch.{Batch}
 use Rattle.engine.specs.Form.{countsOut, jobOut, inForm}
 
@@ -48,3 +53,29 @@ module _ (b : Batch) (form : inForm b ≡ true) where
       any-fails (b .«job_count») j (jobOut b)
       (or-right (countsOut (b .«cell_count») (b .«job_count») (b .sealed) (b .speculating)) (anyBelow (b .«job_count») (jobOut b)) no-fault)
       h
+
+  -- Its jobs are plain: no cell past the last bit of a word, and no mode past 3.
+  pub form-plain : (j : ℕ) → j < b .«job_count» → Plain (jobAt (b .jobs) j)
+  unfolding jobOut
+  form-plain j h = record {
+    within = λ i l used. omega (arith, admitted-cell job cells admitted i (is-used i used), form-counts .few-cells);
+    modes = λ i l used. admitted-mode job cells admitted i (is-used i used);
+  }
+    where
+      job : Job
+      job = jobAt (b .jobs) j
+
+      cells : ℕ
+      cells = b .«cell_count»
+
+      admitted : jobRefusal job cells ≡ 0
+      admitted =
+          eqb-true (jobRefusal job cells) 0
+          (not-false (eqb (jobRefusal job cells) 0) (or-left (not (eqb (jobRefusal job cells) 0)) _ (form-job j h)))
+
+      is-used : (i : ℕ) → inUse job i ≡ true → i < job .arity
+      is-used i used = leb-false (job .arity) i (not-true (leb (job .arity) i) used)
+
+  -- So the walk by words is the walk.
+  pub form-walks : (j : ℕ) → j < b .«job_count» → AllPlain (b .jobs) j
+  form-walks j h i l = form-plain i (omega arith)

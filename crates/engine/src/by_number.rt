@@ -1,41 +1,40 @@
-//! The steps by their numbers 0 to 4, which serve plans and the chooser.
+//! The steps by their numbers 0 to 4, which serve plans, the chooser and the five steps by their names.
 
 ghost use mathlib.Core.Path.{_≡_};
-ghost use Rattle.engine.specs.ByNumber.{noSuchStep, stepped};
+ghost use Rattle.engine.specs.ByNumber.{stepped};
 use crate::Batch;
+use crate::Report;
 use crate::Started;
 
 impl Batch {
-    /// The answer to a step number above 4.
-    fn no_such_step(self) -> Started
-        ensures { λ r. ⌜ r ≡ noSuchStep self ⌝ }
+    /// R50: the step with the number, on job `j`. The values and the mark are those of a report, and ignored by the other
+    /// steps. Refused as that step is, and with 21 for a number above 4.
+    pub fn step(mut self, number: u8, j: usize, values: [i32; 4], wrote: u8) -> Started
+        ensures { λ r. ⌜ r ≡ stepped self number j values wrote ⌝ }
     {
-        if self.is_in_form() {
+        let report = Report { values, wrote };
+        let change = self.change_for(number, j, report);
+        let refusal = change.refusal;
+        if refusal != 0 {
             return Started {
-                refusal: 21,
+                refusal,
                 handed: [0; 4],
                 batch: self,
             };
         }
+        let cells = change.cells;
+        let run = change.run;
+        let now = change.now;
+        let handed = change.handed;
+        self.cells = cells;
+        self.runs[j] = run;
+        self.committed[j] = now.committed;
+        self.running[j] = now.running;
+        self.phase[j] = now.phase;
         Started {
-            refusal: 32,
-            handed: [0; 4],
+            refusal: 0,
+            handed,
             batch: self,
-        }
-    }
-
-    /// R50: the step with the number, on job `j`. The values and the mark are those of a report, and ignored by the other
-    /// steps. Refused as that step is, and with 21 for a number above 4.
-    pub fn step(self, number: u8, j: usize, values: [i32; 4], wrote: u8) -> Started
-        ensures { λ r. ⌜ r ≡ stepped self number j values wrote ⌝ }
-    {
-        match number {
-            0 => self.start_own(j),
-            1 => self.start_speculation(j),
-            2 => self.own_reported(j, values, wrote),
-            3 => self.speculation_reported(j, values, wrote),
-            4 => self.speculation_committed(j),
-            5..=255 => self.no_such_step(),
         }
     }
 }

@@ -1,17 +1,14 @@
 //! Whether a record is in form: refusal 32.
 
 ghost use mathlib.Core.Path.{_≡_};
-ghost use mathlib.Core.Bool.{_||_};
-ghost use Prim.Native.Nat.{_<_};
-ghost use lib.Dec.{ltb};
-ghost use lib.ListN.{getD};
-ghost use Rattle.engine.specs.Form.{countsOut, statesOut, sourceLate, originsOut, heldOut, inForm};
+ghost use Prim.Native.Nat.{_≤_, max};
+ghost use Rattle.engine.specs.Form.{countsOut, inForm};
+ghost use Rattle.engine.specs.FormPass.{topBelow, runOut};
 use crate::Batch;
 use crate::Run;
-use dependence::Job;
 
 /// Whether a count or a switch is outside its limits.
-fn counts_out(cells: u8, jobs: u8, sealed: u8, speculating: u8) -> bool
+pub(crate) fn counts_out(cells: u8, jobs: u8, sealed: u8, speculating: u8) -> bool
     ensures { λ r. ⌜ r ≡ countsOut cells jobs sealed speculating ⌝ }
 {
     if cells == 0 {
@@ -29,64 +26,54 @@ fn counts_out(cells: u8, jobs: u8, sealed: u8, speculating: u8) -> bool
     1 < speculating
 }
 
-/// Whether a state or a mark is outside its list.
-fn states_out(committed: u8, running: u8, phase: u8, wrote: u8) -> bool
-    ensures { λ r. ⌜ r ≡ statesOut committed running phase wrote ⌝ }
+/// The larger of two numbers.
+fn larger(a: u8, b: u8) -> u8
+    ensures { λ r. ⌜ r ≡ max a b ⌝ }
 {
-    if 2 < committed {
-        return true;
+    if a < b {
+        return b;
     }
-    if 1 < running {
-        return true;
-    }
-    if 3 < phase {
-        return true;
-    }
-    1 < wrote
+    a
 }
 
-/// Whether the value at a place was forwarded from a job that is not before job `j`.
-fn source_late(run: Run, j: usize, place: usize) -> bool
-    requires { ⌜ place < 4 ⌝ }
-    ensures { λ r. ⌜ r ≡ sourceLate run j place ⌝ }
+/// The largest of the first `n` numbers of a column. (The column is lent and the loop has no exit but its end, so that it is
+/// compiled to vector instructions.)
+pub(crate) fn top_of(column: &[u8; 128], n: usize) -> u8
+    requires { ⌜ n ≤ 128 ⌝ }
+    ensures { λ r. ⌜ r ≡ topBelow n (now (column .entry)) ⌝ }
 {
-    j < (run.sources[place] as usize)
+    let mut top: u8 = 0;
+    let mut j: usize = 0;
+    while j < n {
+        let x = column[j];
+        let next = larger(x, top);
+        top = next;
+        j += 1;
+    }
+    top
 }
 
-/// Whether the run was forwarded from or bypassed a job that is not before job `j`.
-fn origins_out(run: Run, j: usize) -> bool
-    ensures { λ r. ⌜ r ≡ originsOut run j ⌝ }
+/// Whether the run's mark is outside its list, or it was forwarded from or bypassed a job that is not before job `j`.
+pub(crate) fn run_out(run: Run, j: usize) -> bool
+    ensures { λ r. ⌜ r ≡ runOut run j ⌝ }
 {
-    let mut place: usize = 0;
-    while place < 4 {
-        if source_late(run, j, place) {
-            return true;
-        }
-        place += 1;
+    if 1 < run.wrote {
+        return true;
+    }
+    if j < (run.sources[3] as usize) {
+        return true;
+    }
+    if j < (run.sources[2] as usize) {
+        return true;
+    }
+    if j < (run.sources[1] as usize) {
+        return true;
+    }
+    if j < (run.sources[0] as usize) {
+        return true;
     }
     let bypassed = run.bypassed;
     bypassed.reaches(j)
-}
-
-/// Whether what is held of job `j` is out of form.
-fn held_out(
-    cell_count: u8,
-    j: usize,
-    job: Job,
-    run: Run,
-    committed: u8,
-    running: u8,
-    phase: u8,
-) -> bool
-    ensures { λ r. ⌜ r ≡ heldOut «cell_count» j job run committed running phase ⌝ }
-{
-    if admission::job_refusal(job, cell_count) != 0 {
-        return true;
-    }
-    if states_out(committed, running, phase, run.wrote) {
-        return true;
-    }
-    origins_out(run, j)
 }
 
 impl Batch {
@@ -103,17 +90,30 @@ impl Batch {
             return false;
         }
         let n = self.job_count as usize;
+        if 2 < top_of(&self.committed, n) {
+            return false;
+        }
+        if 1 < top_of(&self.running, n) {
+            return false;
+        }
+        if 3 < top_of(&self.phase, n) {
+            return false;
+        }
         let mut j: usize = 0;
         while j < n {
             let job = self.jobs[j];
-            let run = self.runs[j];
-            let committed = self.committed[j];
-            let running = self.running[j];
-            let phase = self.phase[j];
-            if held_out(self.cell_count, j, job, run, committed, running, phase) {
+            if admission::is_refused(job, self.cell_count) {
                 return false;
             }
             j += 1;
+        }
+        let mut k: usize = 0;
+        while k < n {
+            let run = self.runs[k];
+            if run_out(run, k) {
+                return false;
+            }
+            k += 1;
         }
         true
     }

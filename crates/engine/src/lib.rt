@@ -5,8 +5,10 @@ use jobset::JobSet;
 
 mod ask;
 mod by_number;
+mod change;
 mod chooser;
 mod form;
+mod insert_all;
 mod opening;
 pub mod speculation;
 mod steps;
@@ -43,10 +45,32 @@ pub struct Batch {
     pub phase: [u8; 128],
 }
 
+/// What a worker reports: a value for each access, and 1 if the maybe-write cells were written, else 0.
+#[repr(C)]
+pub struct Report {
+    pub values: [i32; 4],
+    pub wrote: u8,
+}
+
 /// What a call answers that hands nothing out: 0 or the number of its refusal, and the batch.
 #[repr(C)]
 pub struct Answer {
     pub refusal: u8,
+    pub batch: Batch,
+}
+
+/// A list of jobs: the first `count` of `jobs`, in their order. What stands after them means nothing.
+#[repr(C)]
+pub struct JobList {
+    pub count: usize,
+    pub jobs: [Job; 128],
+}
+
+/// What inserting a list answers: 0, or the number of the refusal and which job of the list it was, and the batch.
+#[repr(C)]
+pub struct InsertedAll {
+    pub refusal: u8,
+    pub at: u8,
     pub batch: Batch,
 }
 

@@ -28,7 +28,7 @@ fn padded_cells(heights: &[i32]) -> [i32; 64]
 }
 
 /// What a job that has not run holds.
-fn blank_run() -> Run
+pub(crate) fn blank_run() -> Run
     ensures { λ r. ⌜ r ≡ blankRun ⌝ }
 {
     Run {

@@ -1,4 +1,4 @@
-//! The five steps.
+//! The five steps by their names, and the tests of each. What a step changes is in `change.rt`.
 
 ghost use mathlib.Core.Path.{_≡_};
 ghost use mathlib.Core.Bool.{not, _&&_, _||_};
@@ -7,18 +7,14 @@ ghost use lib.Dec.{eqb};
 ghost use Rattle.laws.specs.Refusal.{when, firstOf};
 ghost use Rattle.dependence.specs.Ready.{isCommitted};
 ghost use Rattle.rules.specs.Snapshot.{neverStarted, isStored, isLive};
-ghost use Rattle.rules.specs.Values.{four, wroteRefused};
-ghost use Rattle.engine.specs.Speculation.{SourcesHeld, forwardedAt};
-ghost use Rattle.engine.specs.Steps.{newRun, reportedRun, stepRefusal, discardedPhase};
+ghost use Rattle.rules.specs.Values.{wroteRefused};
+ghost use Rattle.engine.specs.Steps.{newRun, reportedRun, discardedPhase};
 ghost use Rattle.engine.specs.Steps.{startedOwn, startedSpeculation, reportedOwn, reportedSpeculation, committedBy};
-ghost use Rattle.engine.specs.ByNumber.{withoutValues};
 use crate::Answer;
 use crate::Batch;
 use crate::Run;
 use crate::Started;
-use crate::speculation::is_invalid;
 use crate::speculation::is_live;
-use crate::speculation::unusable_any;
 use dependence::Job;
 use jobset::JobSet;
 
@@ -85,7 +81,7 @@ fn first_of_four(
 }
 
 /// A run that was handed the values, before any report.
-fn new_run(handed: [i32; 4], sources: [u8; 4], bypassed: JobSet) -> Run
+pub(crate) fn new_run(handed: [i32; 4], sources: [u8; 4], bypassed: JobSet) -> Run
     ensures { λ r. ⌜ r ≡ newRun handed sources bypassed ⌝ }
 {
     Run {
@@ -98,7 +94,7 @@ fn new_run(handed: [i32; 4], sources: [u8; 4], bypassed: JobSet) -> Run
 }
 
 /// The phase of a speculative run that is thrown away, if there was one.
-fn discarded_phase(phase: u8) -> u8
+pub(crate) fn discarded_phase(phase: u8) -> u8
     ensures { λ r. ⌜ r ≡ discardedPhase phase ⌝ }
 {
     if phase == 0 {
@@ -135,7 +131,7 @@ pub(crate) fn start_speculation_refusal(
 }
 
 /// Why a report is not taken, whichever run it is on, or 0: that run is not out, or the mark is refused.
-fn report_refusal(out: bool, job: Job, wrote: u8) -> u8
+pub(crate) fn report_refusal(out: bool, job: Job, wrote: u8) -> u8
     ensures { λ r. ⌜ r ≡ firstOf (when (not out) 13 ∷ when (wroteRefused job wrote) 16 ∷ []) ⌝ }
 {
     let refused = runs::wrote_refused(job, wrote);
@@ -152,7 +148,7 @@ pub(crate) fn commit_refusal(how: u8, phase: u8, ready: bool, invalid: bool) -> 
 }
 
 /// The run with a report.
-fn reported_run(job: Job, run: Run, values: [i32; 4], wrote: u8) -> Run
+pub(crate) fn reported_run(job: Job, run: Run, values: [i32; 4], wrote: u8) -> Run
     ensures { λ r. ⌜ r ≡ reportedRun job run values wrote ⌝ }
 {
     let handed = run.handed;
@@ -180,267 +176,39 @@ fn without_values(started: Started) -> Answer
 }
 
 impl Batch {
-    /// Why no step on job `j` is taken, whichever it is, or 0.
-    fn step_refusal(self, j: usize) -> u8
-        ensures { λ r. ⌜ r ≡ stepRefusal self j ⌝ }
-    {
-        if self.is_in_form() {
-            if self.sealed == 0 {
-                return 10;
-            }
-            if (self.job_count as usize) <= j {
-                return 11;
-            }
-            return 0;
-        }
-        32
-    }
-
     /// R51, step 0: starts the own run of job `j` and hands out the present values of its cells.
-    pub fn start_own(mut self, j: usize) -> Started
+    pub fn start_own(self, j: usize) -> Started
         ensures { λ r. ⌜ r ≡ startedOwn self j ⌝ }
     {
-        let early = self.step_refusal(j);
-        if early != 0 {
-            return Started {
-                refusal: early,
-                handed: [0; 4],
-                batch: self,
-            };
-        }
-        let jobs = self.jobs;
-        let committed = self.committed;
-        let how = committed[j];
-        let running = self.running[j];
-        let phase = self.phase[j];
-        let ready = dependence::is_ready(jobs, committed, j);
-        let job = jobs[j];
-        let guess = self.runs[j];
-        let cells = self.cells;
-        let invalid = is_invalid(ready, phase, job, guess, cells);
-        let refusal = start_own_refusal(how, running, phase, ready, invalid);
-        if refusal != 0 {
-            return Started {
-                refusal,
-                handed: [0; 4],
-                batch: self,
-            };
-        }
-        let handed = runs::present_values(job, cells);
-        let run = new_run(handed, [0; 4], JobSet { low: 0, high: 0 });
-        let left = discarded_phase(phase);
-        self.runs[j] = run;
-        self.committed[j] = 0;
-        self.running[j] = 1;
-        self.phase[j] = left;
-        Started {
-            refusal: 0,
-            handed,
-            batch: self,
-        }
-    }
-
-    /// What the speculative run is handed: at each place forwarded from its source, or what is presumed there.
-    fn forwarded_values(self, job: Job, presumed: [i32; 4], sources: [u8; 4]) -> [i32; 4]
-        requires { ⌜ SourcesHeld sources ⌝ }
-        ensures { λ r. ⌜ r ≡ four (forwardedAt self job presumed sources) ⌝ }
-    {
-        let mut handed = presumed;
-        let mut place: usize = 0;
-        while place < 4 {
-            let source = sources[place] as usize;
-            if source != 0 {
-                let writer = self.jobs[source - 1];
-                let run = self.runs[source - 1];
-                let reported = run.reported;
-                let access = job.accesses[place];
-                let value = runs::value_for(writer, reported, access.cell);
-                handed[place] = value;
-            }
-            place += 1;
-        }
-        handed
+        self.step(0, j, [0; 4], 0)
     }
 
     /// R52, step 1: starts the speculative run of job `j`, as if the uncertain writers before it wrote nothing and its
     /// predictions were right.
-    pub fn start_speculation(mut self, j: usize) -> Started
+    pub fn start_speculation(self, j: usize) -> Started
         ensures { λ r. ⌜ r ≡ startedSpeculation self j ⌝ }
     {
-        let early = self.step_refusal(j);
-        if early != 0 {
-            return Started {
-                refusal: early,
-                handed: [0; 4],
-                batch: self,
-            };
-        }
-        let jobs = self.jobs;
-        let committed = self.committed;
-        let phases = self.phase;
-        let how = committed[j];
-        let running = self.running[j];
-        let phase = phases[j];
-        let ready = dependence::is_ready(jobs, committed, j);
-        let sources = walk::sources(jobs, committed, j);
-        let missing = unusable_any(sources, &phases);
-        let on = self.speculating != 0;
-        let refusal = start_speculation_refusal(on, how, running, phase, ready, missing);
-        if refusal != 0 {
-            return Started {
-                refusal,
-                handed: [0; 4],
-                batch: self,
-            };
-        }
-        let job = jobs[j];
-        let cells = self.cells;
-        let presumed = runs::presumed_values(job, cells);
-        let handed = self.forwarded_values(job, presumed, sources);
-        let bypassed = walk::bypassed_by(jobs, committed, j);
-        let run = new_run(handed, sources, bypassed);
-        self.runs[j] = run;
-        self.committed[j] = 0;
-        self.running[j] = 0;
-        self.phase[j] = 1;
-        Started {
-            refusal: 0,
-            handed,
-            batch: self,
-        }
-    }
-
-    /// Step 2 with the answer of a start, which hands out nothing.
-    pub(crate) fn own_reported(mut self, j: usize, values: [i32; 4], wrote: u8) -> Started
-        ensures { λ r. ⌜ r ≡ withoutValues (reportedOwn self j values wrote) ⌝ }
-    {
-        let early = self.step_refusal(j);
-        if early != 0 {
-            return Started {
-                refusal: early,
-                handed: [0; 4],
-                batch: self,
-            };
-        }
-        let job = self.jobs[j];
-        let running = self.running[j];
-        let out = running != 0;
-        let refusal = report_refusal(out, job, wrote);
-        if refusal != 0 {
-            return Started {
-                refusal,
-                handed: [0; 4],
-                batch: self,
-            };
-        }
-        let old = self.runs[j];
-        let run = reported_run(job, old, values, wrote);
-        let reported = run.reported;
-        let present = self.cells;
-        let cells = runs::write_back(job, reported, wrote, present);
-        self.cells = cells;
-        self.runs[j] = run;
-        self.committed[j] = 1;
-        self.running[j] = 0;
-        Started {
-            refusal: 0,
-            handed: [0; 4],
-            batch: self,
-        }
+        self.step(1, j, [0; 4], 0)
     }
 
     /// R53, step 2: takes the report on the own run of job `j`, writes its cells and commits the job.
     pub fn report_own(self, j: usize, values: [i32; 4], wrote: u8) -> Answer
         ensures { λ r. ⌜ r ≡ reportedOwn self j values wrote ⌝ }
     {
-        without_values(self.own_reported(j, values, wrote))
-    }
-
-    /// Step 3 with the answer of a start, which hands out nothing.
-    pub(crate) fn speculation_reported(mut self, j: usize, values: [i32; 4], wrote: u8) -> Started
-        ensures { λ r. ⌜ r ≡ withoutValues (reportedSpeculation self j values wrote) ⌝ }
-    {
-        let early = self.step_refusal(j);
-        if early != 0 {
-            return Started {
-                refusal: early,
-                handed: [0; 4],
-                batch: self,
-            };
-        }
-        let job = self.jobs[j];
-        let phase = self.phase[j];
-        let out = phase == 1;
-        let refusal = report_refusal(out, job, wrote);
-        if refusal != 0 {
-            return Started {
-                refusal,
-                handed: [0; 4],
-                batch: self,
-            };
-        }
-        let old = self.runs[j];
-        let run = reported_run(job, old, values, wrote);
-        self.runs[j] = run;
-        self.phase[j] = 2;
-        Started {
-            refusal: 0,
-            handed: [0; 4],
-            batch: self,
-        }
+        without_values(self.step(2, j, values, wrote))
     }
 
     /// R54, step 3: stores the report on the speculative run of job `j`; no cell changes.
     pub fn report_speculation(self, j: usize, values: [i32; 4], wrote: u8) -> Answer
         ensures { λ r. ⌜ r ≡ reportedSpeculation self j values wrote ⌝ }
     {
-        without_values(self.speculation_reported(j, values, wrote))
-    }
-
-    /// Step 4 with the answer of a start, which hands out nothing.
-    pub(crate) fn speculation_committed(mut self, j: usize) -> Started
-        ensures { λ r. ⌜ r ≡ withoutValues (committedBy self j) ⌝ }
-    {
-        let early = self.step_refusal(j);
-        if early != 0 {
-            return Started {
-                refusal: early,
-                handed: [0; 4],
-                batch: self,
-            };
-        }
-        let jobs = self.jobs;
-        let committed = self.committed;
-        let how = committed[j];
-        let phase = self.phase[j];
-        let ready = dependence::is_ready(jobs, committed, j);
-        let job = jobs[j];
-        let run = self.runs[j];
-        let present = self.cells;
-        let invalid = is_invalid(ready, phase, job, run, present);
-        let refusal = commit_refusal(how, phase, ready, invalid);
-        if refusal != 0 {
-            return Started {
-                refusal,
-                handed: [0; 4],
-                batch: self,
-            };
-        }
-        let reported = run.reported;
-        let written = runs::write_back(job, reported, run.wrote, present);
-        self.cells = written;
-        self.committed[j] = 2;
-        Started {
-            refusal: 0,
-            handed: [0; 4],
-            batch: self,
-        }
+        without_values(self.step(3, j, values, wrote))
     }
 
     /// R55, step 4: commits job `j` by its speculative run, whose stored report is written into the cells.
     pub fn commit(self, j: usize) -> Answer
         ensures { λ r. ⌜ r ≡ committedBy self j ⌝ }
     {
-        without_values(self.speculation_committed(j))
+        without_values(self.step(4, j, [0; 4], 0))
     }
 }

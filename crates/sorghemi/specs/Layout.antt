@@ -64,10 +64,17 @@ setAnswer = 3 ∷ 0 ∷ 1 ∷ 2 ∷ []
 abbrev speculationAnswer : List ℕ
 speculationAnswer = 7 ∷ 0 ∷ 1 ∷ 4 ∷ []
 
+abbrev jobList : List ℕ
+jobList = 4104 ∷ 0 ∷ 8 ∷ []
+
+abbrev inserted : List ℕ
+inserted = 2 ∷ 0 ∷ 1 ∷ []
+
 abbrev pub layout : List ℕ
 layout =
-    5
+    6
     ∷ batch ++ run ++ jobSet ++ job ++ access
     ++ report ++ handed ++ started ++ answer
     ++ choice ++ cellAnswer ++ jobAnswer ++ batchAnswer ++ outcome ++ planAnswer
     ++ tally ++ tallyAnswer ++ shareAnswer ++ setAnswer ++ speculationAnswer
+    ++ jobList ++ inserted

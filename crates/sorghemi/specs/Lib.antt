@@ -1,5 +1,7 @@
 pub mod Step
+pub mod InsertAll
 pub mod Plan
 pub mod PlanLaws
 pub mod Layout
 pub mod Share
+pub mod Behind

@@ -7,7 +7,7 @@ use Rattle.engine.specs.declared.Batch.{Batch}
 use Rattle.engine.specs.declared.Started.{Started}
 use Rattle.engine.specs.ByNumber.{stepped, step-0, step-1, step-2, step-3, step-4}
 use Rattle.engine.specs.Perform.{perform}
-use Rattle.sorghemi.specs.declared.Report.{Report}
+use Rattle.engine.specs.declared.Report.{Report}
 use Rattle.sorghemi.specs.declared.Handed.{Handed}
 
 -- R9: the step with the number on job j. Its batch is what stands in a lent record afterwards, refused or not.

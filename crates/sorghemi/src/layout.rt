@@ -5,9 +5,9 @@ ghost use lib.ListN.{getD};
 ghost use Rattle.sorghemi.specs.Layout.{layout};
 
 /// The version of the list, then of each struct its size and the offsets of its fields in their order.
-const NUMBERS: [u32; 95] = [
+const NUMBERS: [u32; 101] = [
     // the version
-    5,
+    6,
     // Batch
     11912,
     0,
@@ -122,6 +122,14 @@ const NUMBERS: [u32; 95] = [
     0,
     1,
     4,
+    // JobList
+    4104,
+    0,
+    8,
+    // Inserted
+    2,
+    0,
+    1,
 ];
 
 /// R95: the number at a place of the list that hosts compare their own with; 0 past its end.
@@ -130,7 +138,7 @@ pub extern "C" fn sorghemi_layout(place: usize) -> u32
     ensures { λ r. ⌜ r ≡ getD layout place 0 ⌝ }
 {
     let numbers = NUMBERS;
-    if place < 95 {
+    if place < 101 {
         return numbers[place];
     }
     0

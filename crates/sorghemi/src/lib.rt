@@ -1,6 +1,6 @@
 //! The engine for hosts in other languages: functions exported under C's calling convention over a batch record that
 //! the host owns. A record goes in by value and comes back with the answer; a step also has the lent form, in which
-//! the host lends its record and the step changes it.
+//! the host lends its record and the step changes it, and a list of jobs is inserted in that form alone.
 
 mod layout;
 mod opening;
@@ -10,18 +10,18 @@ mod result;
 mod step;
 mod tallies;
 
-/// What a worker reports: a value for each access, and 1 if the maybe-write cells were written, else 0.
-#[repr(C)]
-pub struct Report {
-    pub values: [i32; 4],
-    pub wrote: u8,
-}
-
 /// What a step on a lent batch answers: 0 or the number of its refusal, and the values handed to a run, 0 each where none is started.
 #[repr(C)]
 pub struct Handed {
     pub refusal: u8,
     pub values: [i32; 4],
+}
+
+/// What inserting a list into a lent batch answers: 0, or the number of the refusal and which job of the list it was.
+#[repr(C)]
+pub struct Inserted {
+    pub refusal: u8,
+    pub at: u8,
 }
 
 /// What answering a plan tells: 0 or the number of its refusal, and how many bytes the answer has, 0 where it is refused.

@@ -3,8 +3,8 @@
 ghost use mathlib.Core.Path.{_≡_};
 ghost use Rattle.sorghemi.specs.Step.{steppedFor, handedBy};
 use crate::Handed;
-use crate::Report;
 use engine::Batch;
+use engine::Report;
 use engine::Started;
 
 /// The step with the number on the job, with the batch by value. Steps 0, 1 and 4 ignore the report.
@@ -22,14 +22,25 @@ pub extern "C" fn sorghemi_step_by_value(
 }
 
 /// R9: the same step on a batch that the host lends: it holds what the by-value step hands back. A refusal leaves it as it was.
+/// Only what the step changes is stored.
 #[no_mangle]
 pub extern "C" fn sorghemi_step(batch: &mut Batch, number: u8, job: usize, report: Report) -> Handed
     ensures { λ r. ⌜ (now (batch .exit) ≡ steppedFor (now (batch .entry)) number job report .batch) × (r ≡ handedBy (steppedFor (now (batch .entry)) number job report)) ⌝ }
 {
-    let started = sorghemi_step_by_value(*batch, number, job, report);
-    *batch = started.batch;
+    let change = (*batch).change_for(number, job, report);
+    if change.refusal != 0 {
+        return Handed {
+            refusal: change.refusal,
+            values: [0; 4],
+        };
+    }
+    batch.cells = change.cells;
+    batch.runs[job] = change.run;
+    batch.committed[job] = change.now.committed;
+    batch.running[job] = change.now.running;
+    batch.phase[job] = change.now.phase;
     Handed {
-        refusal: started.refusal,
-        values: started.handed,
+        refusal: 0,
+        values: change.handed,
     }
 }

@@ -3,9 +3,10 @@
 use crate::job::{Job, Report};
 use crate::layout;
 use crate::numbers::{Committed, Phase, Step, Validity};
-use crate::raw::{self, Record};
-use crate::refusal::Refusal;
+use crate::raw::{self, Inserted, JobList, Record};
+use crate::refusal::{Refusal, RefusedJob};
 use crate::tally::Tally;
+use std::ops::Range;
 
 /// A step worth taking next.
 #[derive(Clone, Copy, Debug, PartialEq, Eq)]
@@ -155,6 +156,40 @@ impl Batch {
         Refusal::check(answer.refusal)?;
         self.record = answer.batch;
         Ok(self.record.job_count as usize - 1)
+    }
+
+    /// Inserts the jobs of the list, one after the other, in one call, and tells their numbers. The first that is refused ends it:
+    /// then no job is inserted (R25). It costs one check of the record and not one for each job.
+    ///
+    /// ```
+    /// use sorghemi::{Batch, Job, Refusal, RefusedJob};
+    ///
+    /// # fn main() -> Result<(), sorghemi::Refusal> {
+    /// let mut batch = Batch::open(&[1500, 1480])?;
+    /// assert_eq!(batch.insert_all(&[Job::spike(0, 1, 1000), Job::shift(0, 20)])?, 0..2);
+    ///
+    /// // There is no cell 2, so the floor is not inserted either.
+    /// let refused = RefusedJob { at: 1, refusal: Refusal::NO_SUCH_CELL };
+    /// assert_eq!(batch.insert_all(&[Job::floor(0, 1400), Job::shift(2, 20)]), Err(refused));
+    /// assert_eq!(batch.progress()?.jobs, 2);
+    /// # Ok(())
+    /// # }
+    /// ```
+    ///
+    /// # Errors
+    ///
+    /// Those of [`insert`](Batch::insert), with the place of the job in the list. So of a list that is too long the first job that
+    /// finds no place is refused with [`TOO_MANY_JOBS`](Refusal::TOO_MANY_JOBS), if none before it is refused.
+    pub fn insert_all(&mut self, jobs: &[Job]) -> Result<Range<usize>, RefusedJob> {
+        // Of more than 128 jobs the library looks at no more than 128, since there is a place for no more.
+        let mut list = JobList { count: jobs.len(), jobs: [Job::outside(0, &[]); 128] };
+        for (place, job) in list.jobs.iter_mut().zip(jobs) {
+            *place = *job;
+        }
+        let first = self.record.job_count as usize;
+        let Inserted { refusal, at } = unsafe { raw::sorghemi_insert_all(&mut self.record, &list) };
+        Refusal::check(refusal).map_err(|refusal| RefusedJob { at: at as usize, refusal })?;
+        Ok(first..self.record.job_count as usize)
     }
 
     /// Says, once for a batch, whether guesses may be started. Steps and choices come after it, and further jobs may (R7).

@@ -66,7 +66,7 @@ pub use layout::{library_layout, wrapper_layout};
 pub use numbers::{Committed, Kind, Mode, Phase, Step, Validity};
 pub use plan::{answer, LONGEST_ANSWER};
 pub use raw::{Access, JobSet, Record, Run};
-pub use refusal::Refusal;
+pub use refusal::{Refusal, RefusedJob};
 pub use tally::Tally;
 
 /// The example on the project's first page, tried with the others.

@@ -66,6 +66,24 @@ pub struct Record {
     pub phase: [u8; 128],
 }
 
+/// A list of jobs to insert: the first `count` of `jobs`. What stands in the places after them is never looked at.
+#[repr(C)]
+#[derive(Clone, Copy, Debug, PartialEq, Eq)]
+#[allow(missing_docs)]
+pub struct JobList {
+    pub count: usize,
+    pub jobs: [Job; 128],
+}
+
+/// What inserting a list into a lent record answers: the number of the refusal and the place of the refused job, or zeros.
+#[repr(C)]
+#[derive(Clone, Copy, Debug, PartialEq, Eq)]
+#[allow(missing_docs)]
+pub struct Inserted {
+    pub refusal: u8,
+    pub at: u8,
+}
+
 /// What a step on a lent record answers: the number of its refusal or 0, and the values handed to a run that it started, zeros otherwise.
 #[repr(C)]
 #[derive(Clone, Copy, Debug, PartialEq, Eq)]
@@ -206,6 +224,7 @@ pub struct ShareAnswer {
 extern "C" {
     pub fn sorghemi_open(heights: *const i32, count: usize) -> Answer;
     pub fn sorghemi_insert(batch: Record, job: Job) -> Answer;
+    pub fn sorghemi_insert_all(batch: *mut Record, list: *const JobList) -> Inserted;
     pub fn sorghemi_seal(batch: Record, guessing: u8) -> Answer;
     pub fn sorghemi_step(batch: *mut Record, number: u8, job: usize, report: Report) -> Handed;
     pub fn sorghemi_step_by_value(batch: Record, number: u8, job: usize, report: Report) -> Started;

@@ -115,6 +115,29 @@ impl fmt::Debug for Refusal {
 
 impl std::error::Error for Refusal {}
 
+/// The job for which a list of jobs was refused. None of them is then inserted.
+#[derive(Clone, Copy, Debug, PartialEq, Eq)]
+pub struct RefusedJob {
+    /// Its place in the list, 0 for the first.
+    pub at: usize,
+    /// Why it is refused.
+    pub refusal: Refusal,
+}
+
+impl fmt::Display for RefusedJob {
+    fn fmt(&self, f: &mut fmt::Formatter) -> fmt::Result {
+        write!(f, "job {} of the list: {}", self.at, self.refusal)
+    }
+}
+
+impl std::error::Error for RefusedJob {}
+
+impl From<RefusedJob> for Refusal {
+    fn from(refused: RefusedJob) -> Refusal {
+        refused.refusal
+    }
+}
+
 #[cfg(test)]
 mod tests {
     use super::*;

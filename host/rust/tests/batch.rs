@@ -1,8 +1,9 @@
 //! The wrapper over the archive: batches run to their end, every refusal that a caller can meet, and the record kept.
 
+use sorghemi::raw::{sorghemi_insert_all, Inserted, JobList};
 use sorghemi::{
-    answer, Batch, Choice, Committed, Job, JobState, Jobs, Kind, Mode, Phase, Record, Refusal, Report, Speculation, Step,
-    Validity,
+    answer, Batch, Choice, Committed, Job, JobState, Jobs, Kind, Mode, Phase, Record, Refusal, RefusedJob, Report, Speculation,
+    Step, Validity,
 };
 
 /// A small generator of random numbers, the same in every run.
@@ -99,6 +100,53 @@ fn a_job_comes_in_while_runs_are_out() {
     batch.commit(2).unwrap();
     assert!(batch.finished());
     assert_eq!(batch.cells(), [1525, 1480]);
+}
+
+/// The list inserted in one call does what inserting its jobs one by one does, up to the first that is refused.
+fn inserted_alike(before: &Batch, list: &[Job]) {
+    let (mut whole, mut one_by_one) = (before.clone(), before.clone());
+    let held = before.progress().unwrap().jobs;
+    let told = whole.insert_all(list);
+    let mut places = list.iter().enumerate();
+    let refused = places.find_map(|(at, job)| one_by_one.insert(*job).err().map(|refusal| RefusedJob { at, refusal }));
+    match refused {
+        None => assert_eq!((told, &whole), (Ok(held..held + list.len()), &one_by_one)),
+        Some(refused) => assert_eq!((told, &whole), (Err(refused), before)),
+    }
+}
+
+#[test]
+fn a_list_is_inserted_as_its_jobs_one_by_one() {
+    for held in [0, 1, 100, 128] {
+        let before = sealed(&[1500], &vec![Job::floor(0, 1400); held]);
+        for count in [0, 1, 28, 29, 128, 129, 200] {
+            for sound in [0, 27, 28, 127, 128, 200] {
+                let list: Vec<Job> = (0..count).map(|place| Job::shift((place >= sound) as u8, 20)).collect();
+                inserted_alike(&before, &list);
+            }
+        }
+    }
+}
+
+/// 32 goes before all, also where there is no job; and a count that is too large is no fault of its own.
+#[test]
+fn a_list_for_a_record_out_of_form_or_with_any_count() {
+    let mut record = *Batch::open(&[1500]).unwrap().record();
+    let mut list = JobList { count: 0, jobs: [Job::shift(0, 20); 128] };
+    let mut told = |record: &mut Record, count| {
+        list.count = count;
+        let Inserted { refusal, at } = unsafe { sorghemi_insert_all(record, &list) };
+        (refusal, at)
+    };
+    assert_eq!(told(&mut record, usize::MAX), (3, 128));
+    assert_eq!(told(&mut record, 128), (0, 0));
+    assert_eq!(record.job_count, 128);
+    record.cell_count = 0;
+    let before = record;
+    for count in [0, 1, usize::MAX] {
+        assert_eq!(told(&mut record, count), (32, 0));
+        assert_eq!(record, before);
+    }
 }
 
 #[test]

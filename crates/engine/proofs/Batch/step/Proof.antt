@@ -1,80 +1,68 @@
--- `Batch::step` meets its contract: each number is its step.
+-- `Batch::step` meets its contract: the change is made, or refused.
+use native.Mathlib.Omega.{arith}
+use Prim.Native.Nat.{ℕ, _<_}
+use mathlib.Core.Path.{_≡_, sym, ap, _∙_}
 use borrow.Author.Tests.{ne-eqb}
-use Rattle.engine.specs.ByNumber.{stepped}
 use borrow.Author.Needs.{needs}
+use Rattle.engine.specs.declared.Batch.{Batch}
+use Rattle.engine.specs.declared.Report.{Report}
+use Rattle.engine.specs.declared.change.Change.{Change}
+use Rattle.engine.specs.Steps.{withJobChanged}
+use Rattle.engine.specs.Change.{changeOn}
+use Rattle.engine.specs.ChangeLaws.{step-is-change, change-place}
 use Rattle.engine.proofs.Batch.step.Statement.{statement}
 use Rattle.engine.proofs.Batch.step.Tie as tie
 
-start-own-requires : tie.Need-start-own-requires
-start-own-requires c κs = search needs
+change-for-requires : tie.Need-change-for-requires
+change-for-requires c κs = search needs
 
-start-speculation-requires : tie.Need-start-speculation-requires
-start-speculation-requires c κs = search needs
+-- the job has a place where the change is accepted
+placed : (b : Batch) (number j : ℕ) (report : Report) {change : Change} → change ≡ changeOn b number j report → change .refusal ≡ 0 → j < 128
+placed b number j report e free = change-place b number j report (sym (ap (λ (x : Change). x .refusal) e) ∙ free)
 
-own-reported-requires : tie.Need-own-reported-requires
-own-reported-requires c κs = search needs
-
-speculation-reported-requires : tie.Need-speculation-reported-requires
-speculation-reported-requires c κs = search needs
-
-speculation-committed-requires : tie.Need-speculation-committed-requires
-speculation-committed-requires c κs = search needs
-
-no-such-step-requires : tie.Need-no-such-step-requires
-no-such-step-requires c κs = search needs
-
--- 0
+-- refused
 returns : tie.Need-returns
-unfolding stepped
-returns c = rw (c .before .match .keys1, c .start-own .ensures)
+returns c =
+    let a = c .before .before .args in
+    let report : Report = record { values = a .values; wrote = a .wrote } in
+    rw (step-is-change (a .t1) (a .number) (a .j) report, ← c .before .change-for .ensures, ne-eqb _ _ (c .if1 .taken))
 
--- 1
+mul-run : tie.Need-mul-run
+mul-run c = omega (arith, placed _ _ _ _ (c .before .before .before .before .before .change-for .ensures) (c .before .before .before .before .if1 .left))
+
+element-set-from-run : tie.Need-element-set-from-run
+element-set-from-run c = omega (arith, placed _ _ _ _ (c .before .before .before .before .before .change-for .ensures) (c .before .before .before .before .if1 .left))
+
+element-write-self : tie.Need-element-write-self
+element-write-self c = omega (arith, placed _ _ _ _ (c .before .before .before .before .before .change-for .ensures) (c .before .before .before .before .if1 .left))
+
+element-write-self-2 : tie.Need-element-write-self-2
+element-write-self-2 c = omega (arith, placed _ _ _ _ (c .before .before .before .before .before .change-for .ensures) (c .before .before .before .before .if1 .left))
+
+element-write-self-3 : tie.Need-element-write-self-3
+element-write-self-3 c = omega (arith, placed _ _ _ _ (c .before .before .before .before .before .change-for .ensures) (c .before .before .before .before .if1 .left))
+
+-- accepted
 returns-2 : tie.Need-returns-2
-unfolding stepped
-returns-2 c = rw (c .before .match .keys2, c .start-speculation .ensures)
-
--- 2
-returns-3 : tie.Need-returns-3
-unfolding stepped
-returns-3 c = rw (c .before .match .keys3, c .own-reported .ensures)
-
--- 3
-returns-4 : tie.Need-returns-4
-unfolding stepped
-returns-4 c = rw (c .before .match .keys4, c .speculation-reported .ensures)
-
--- 4
-returns-5 : tie.Need-returns-5
-unfolding stepped
-returns-5 c = rw (c .before .match .keys5, c .speculation-committed .ensures)
-
--- no such step
-returns-6 : tie.Need-returns-6
-unfolding stepped
-returns-6 c =
-    let r = c .before .match .rest in
+unfolding withJobChanged
+returns-2 c =
+    let a = c .before .before .before .before .before .before .args in
+    let report : Report = record { values = a .values; wrote = a .wrote } in
     rw (
-      ne-eqb _ _ (r .0 .0 .0 .0 .1),
-      ne-eqb _ _ (r .0 .0 .0 .1),
-      ne-eqb _ _ (r .0 .0 .1),
-      ne-eqb _ _ (r .0 .1),
-      ne-eqb _ _ (r .1),
-      c .no-such-step .ensures,
+      step-is-change (a .t1) (a .number) (a .j) report,
+      ← c .before .before .before .before .before .change-for .ensures,
+      c .before .before .before .before .if1 .left,
     )
 
 pub step-spec : {M : Type 1} → statement M
 step-spec =
     tie.close
     (tie.spec
-    start-own-requires
-    start-speculation-requires
-    own-reported-requires
-    speculation-reported-requires
-    speculation-committed-requires
-    no-such-step-requires
+    change-for-requires
     returns
-    returns-2
-    returns-3
-    returns-4
-    returns-5
-    returns-6)
+    mul-run
+    element-set-from-run
+    element-write-self
+    element-write-self-2
+    element-write-self-3
+    returns-2)
