@@ -53,11 +53,11 @@ abbrev pub ownStart : Job → Run → Standing → List ℤ → Bool → Change
 ownStart job run now cells isReady =
     record {
       refusal =
-        firstOf
-        (when (isCommitted (now .committed) || not (eqb (now .running) 0)) 13
-        ∷ when (not isReady) 15
-        ∷ when ((isReady && isLive (now .phase)) && not (invalidRun isReady (now .phase) job run cells)) 17
-        ∷ []);
+          firstOf
+          (when (isCommitted (now .committed) || not (eqb (now .running) 0)) 13
+          ∷ when (not isReady) 15
+          ∷ when ((isReady && isLive (now .phase)) && not (invalidRun isReady (now .phase) job run cells)) 17
+          ∷ []);
       handed = presentValues job cells;
       cells = cells;
       run = newRun (presentValues job cells) (replicate 4 0) emptySet;
@@ -69,11 +69,11 @@ abbrev pub commitChange : Job → Run → Standing → List ℤ → Bool → Cha
 commitChange job run now cells isReady =
     record {
       refusal =
-        firstOf
-        (when (isCommitted (now .committed) || not (isStored (now .phase))) 13
-        ∷ when (not isReady) 15
-        ∷ when (invalidRun isReady (now .phase) job run cells) 18
-        ∷ []);
+          firstOf
+          (when (isCommitted (now .committed) || not (isStored (now .phase))) 13
+          ∷ when (not isReady) 15
+          ∷ when (invalidRun isReady (now .phase) job run cells) 18
+          ∷ []);
       handed = replicate 4 (pos 0);
       cells = writeBack job (run .reported) (run .wrote) cells;
       run = run;
@@ -85,12 +85,12 @@ abbrev pub speculationStart : Bool → Standing → List ℤ → Bool → Bool �
 speculationStart on now cells isReady missing guess =
     record {
       refusal =
-        firstOf
-        (when (not on) 12
-        ∷ when (isCommitted (now .committed) || (not (eqb (now .running) 0) || not (neverStarted (now .phase)))) 13
-        ∷ when isReady 14
-        ∷ when missing 15
-        ∷ []);
+          firstOf
+          (when (not on) 12
+          ∷ when (isCommitted (now .committed) || (not (eqb (now .running) 0) || not (neverStarted (now .phase)))) 13
+          ∷ when isReady 14
+          ∷ when missing 15
+          ∷ []);
       handed = guess .handed;
       cells = cells;
       run = guess;

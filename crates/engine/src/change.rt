@@ -69,7 +69,14 @@ fn refused_change(refusal: u8) -> Change
 }
 
 /// Step 2 on a job that stands so.
-fn own_report(job: Job, run: Run, now: Standing, cells: [i32; 64], values: [i32; 4], wrote: u8) -> Change
+fn own_report(
+    job: Job,
+    run: Run,
+    now: Standing,
+    cells: [i32; 64],
+    values: [i32; 4],
+    wrote: u8,
+) -> Change
     ensures { λ r. ⌜ r ≡ ownReport job run now cells values wrote ⌝ }
 {
     let out = now.running != 0;
@@ -91,7 +98,14 @@ fn own_report(job: Job, run: Run, now: Standing, cells: [i32; 64], values: [i32;
 }
 
 /// Step 3.
-fn speculation_report(job: Job, run: Run, now: Standing, cells: [i32; 64], values: [i32; 4], wrote: u8) -> Change
+fn speculation_report(
+    job: Job,
+    run: Run,
+    now: Standing,
+    cells: [i32; 64],
+    values: [i32; 4],
+    wrote: u8,
+) -> Change
     ensures { λ r. ⌜ r ≡ speculationReport job run now cells values wrote ⌝ }
 {
     let out = now.phase == 1;
@@ -164,7 +178,14 @@ fn speculation_start(
 ) -> Change
     ensures { λ r. ⌜ r ≡ speculationStart on now cells ready missing run ⌝ }
 {
-    let refusal = start_speculation_refusal(on, now.committed, now.running, now.phase, ready, missing);
+    let refusal = start_speculation_refusal(
+        on,
+        now.committed,
+        now.running,
+        now.phase,
+        ready,
+        missing,
+    );
     let handed = run.handed;
     Change {
         refusal,
