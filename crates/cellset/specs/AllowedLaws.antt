@@ -10,9 +10,9 @@ use Rattle.laws.specs.SearchLaws.{if-or}
 use Rattle.laws.specs.Refusal.{Refusal, when, firstOf}
 use Rattle.rules.specs.Snapshot.{Snapshot, neverStarted, isOut, isStored, isLive}
 use Rattle.rules.specs.Speculation.{isReady, handedStale, isValid, isInvalid, sourceMissing}
-use Rattle.rules.specs.Call.{Call, startOwn, startSpeculation, commit}
+use Rattle.rules.specs.Call.{startOwn, startSpeculation, commit}
 use Rattle.rules.specs.Refusals.{stepTests, refusalOf}
-use Rattle.cellset.specs.Survey.{Columns, isOpen, allowedStep, allowedAt}
+use Rattle.cellset.specs.Survey.{Columns, isOpen, allowedAt}
 use Rattle.cellset.specs.SurveyLaws.{Tells, ready-told, missing-told}
 
 -- The step told of an open job, by what may be done with it.

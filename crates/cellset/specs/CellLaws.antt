@@ -1,22 +1,24 @@
 -- What the words of a job's cells say: which cells it names, may write, surely writes, and looks back for.
-use Prim.Native.Nat.{ℕ, zero, suc, _^_, _<_}
+use Prim.Native.Nat.{ℕ, zero, suc, _+_, _-_, _^_, _<_, min}
 use native.Mathlib.Omega.{arith}
-use mathlib.Core.Bool.{Bool, true, false, cond, not, _&&_, _||_, and-assoc, and-comm}
-use mathlib.Core.Path.{_≡_, refl, sym, ap, _∙_}
+use native.Mathlib.Nat.{add-zero, add-suc}
+use native.Mathlib.Numerals.{add-one}
+use mathlib.Core.Bool.{Bool, true, false, cond, _&&_, _||_, and-assoc, and-comm}
+use mathlib.Core.Path.{_≡_, refl, sym, _∙_}
 use lib.Dec.{eqb, ltb, lit<}
-use lib.Bits.{bitAnd, bitOr, and-le-l, or-lt}
-use borrow.Author.Tests.{eqb-true, eq-eqb, ne-eqb, ltb-true, ltb-false}
+use borrow.Author.Tests.{eqb-true, eq-eqb, ne-eqb, ltb-true, ltb-false, le-leb}
 use Rattle.laws.specs.Search.{anyBelow}
 use Rattle.laws.specs.SearchLaws.{any-same, any-and, any-swap, any-found, any-absent, if-or, and-false, eqb-comm}
 use Rattle.laws.specs.Fold.{foldBelow}
 use Rattle.dependence.specs.declared.Access.{Access}
 use Rattle.dependence.specs.declared.Job.{Job}
-use Rattle.dependence.specs.Job.{inUse, accessAt, anyAccess}
-use Rattle.dependence.specs.Sort.{mayWrite, namesAt, namesCell, mayWriteAt, mayWriteCell}
+use Rattle.dependence.specs.Job.{inUse, accessAt}
+use Rattle.dependence.specs.Sort.{mayWrite, namesCell, mayWriteAt, mayWriteCell}
 use Rattle.jobset.specs.JobSet.{bit, withBit}
-use Rattle.jobset.specs.Bits.{bit-zero, bit-with, with-fits, any-bit}
+use Rattle.jobset.specs.Bits.{bit-zero, bit-with, with-fits}
 use Rattle.rules.specs.Walk.{accessIs, writes, looksBack}
-use Rattle.cellset.specs.Cells.{wordWith, wordOf, anyMode, surelyWrites, isUnpredicted, cellsOf}
+use Rattle.cellset.specs.declared.Cells.{Cells}
+use Rattle.cellset.specs.Cells.{wordWith, wordOf, anyMode, surelyWrites, isUnpredicted, noCells, withPlace, cellsOf}
 
 -- Place i of the job is in use, its access satisfies p, and the cell is its.
 abbrev pub usesAt : (Access → Bool) → Job → ℕ → ℕ → Bool
@@ -123,3 +125,45 @@ module _ (job : Job) (cell : ℕ) (h : cell < 64) where
       word-bit isUnpredicted job cell h
       ∙ any-same 4 (usesAt isUnpredicted job cell) (λ i. looksBack job i && eqb cell (accessAt job i .cell))
       (λ i l. sym (and-assoc (inUse job i) (isUnpredicted (accessAt job i)) (eqb cell (accessAt job i .cell))))
+
+-- The pass over the places in use alone: a place that is not changes no word.
+module _ (job : Job) where
+  -- The four words after n places.
+  abbrev pub cellsBelow : ℕ → Cells
+  cellsBelow n =
+      record {
+        named = foldBelow n (wordWith anyMode job) 0;
+        written = foldBelow n (wordWith mayWrite job) 0;
+        sure = foldBelow n (wordWith surelyWrites job) 0;
+        back = foldBelow n (wordWith isUnpredicted job) 0;
+      }
+
+  pub cells-none : noCells ≡ cellsBelow 0
+  unfolding foldBelow
+  cells-none = refl
+
+  pub cells-more : (n : ℕ) → withPlace job n (cellsBelow n) ≡ cellsBelow (n + 1)
+  unfolding foldBelow
+  cells-more n = rw add-one
+
+  unused : (p : Access → Bool) (k : ℕ) → foldBelow (job .arity + k) (wordWith p job) 0 ≡ foldBelow (job .arity) (wordWith p job) 0
+  unfolding foldBelow
+  unused p zero = rw add-zero
+  unused p (suc k) = rw (add-suc, le-leb (job .arity) (job .arity + k) (omega arith)) (unused p k)
+
+  word-used : (p : Access → Bool) → foldBelow (min (job .arity) 4) (wordWith p job) 0 ≡ wordOf p job
+  unfolding wordOf
+  word-used p =
+      if-or (ltb (job .arity) 4)
+      (λ t.
+      let few = ltb-true (job .arity) 4 t in
+      let here : min (job .arity) 4 ≡ job .arity = omega arith in
+      let all : job .arity + (4 - job .arity) ≡ 4 = omega arith in
+      rw here (sym (rw all at (unused p (4 - job .arity)))))
+      (λ f.
+      let many = ltb-false (job .arity) 4 f in
+      let here : min (job .arity) 4 ≡ 4 = omega arith in
+      rw here)
+
+  pub cells-used : cellsBelow (min (job .arity) 4) ≡ cellsOf job
+  cells-used = rw (word-used anyMode, word-used mayWrite, word-used surelyWrites, word-used isUnpredicted)

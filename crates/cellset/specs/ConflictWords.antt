@@ -1,8 +1,8 @@
 -- Conflict of jobs whose cells all have a bit: two words that the later one shares with the earlier.
 use Prim.Native.Nat.{ℕ, _^_, _<_}
 use native.Mathlib.Omega.{arith}
-use mathlib.Core.Bool.{Bool, true, false, not, _&&_, _||_, and-comm}
-use mathlib.Core.Path.{_≡_, refl, sym, ap, ap₂, _∙_}
+use mathlib.Core.Bool.{Bool, true, false, not, _&&_, _||_}
+use mathlib.Core.Path.{_≡_, refl, sym, ap₂, _∙_}
 use lib.Dec.{eqb}
 use lib.Bits.{bitAnd, and-le-l, or-lt}
 use Rattle.laws.specs.Search.{anyBelow}

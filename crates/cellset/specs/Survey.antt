@@ -1,13 +1,12 @@
 -- Which step is allowed on each job, by one pass over columns of numbers that keeps three sets of cells.
 use Prim.Native.Nat.{ℕ, zero, suc, _<_}
-use mathlib.Core.Bool.{Bool, true, false, cond, not, _&&_, _||_}
+use mathlib.Core.Bool.{Bool, false, cond, not, _&&_, _||_}
 use mathlib.Core.List.{List}
 use mathlib.Core.Path.{_≡_}
 use lib.Dec.{eqb}
 use lib.Bits.{bitAnd, bitOr, bitXor}
 use lib.ListN.{length, getD}
 use Rattle.laws.specs.Search.{anyBelow}
-use Rattle.dependence.specs.Ready.{isCommitted}
 use Rattle.rules.specs.Snapshot.{neverStarted, isStored, isLive}
 use Rattle.cellset.specs.declared.Cells.{Cells}
 use Rattle.cellset.specs.declared.survey.Earlier.{Earlier}

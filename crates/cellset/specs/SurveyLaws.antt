@@ -1,33 +1,28 @@
 -- What the pass tells of a job is what the rules allow on it: of a snapshot whose jobs and states the columns hold.
-use Prim.Native.Nat.{ℕ, zero, suc, _-_, _^_, _<_, _≤_}
+use Prim.Native.Nat.{ℕ, zero, suc, _-_, _<_, _≤_}
 use native.Mathlib.Omega.{arith}
 use native.Mathlib.Numerals.{sub-one}
-use mathlib.Core.Bool.{Bool, true, false, cond, not, _&&_, _||_, and-assoc}
-use mathlib.Core.List.{List, [], _∷_}
+use mathlib.Core.Bool.{Bool, true, false, cond, not, _&&_, _||_}
 use mathlib.Core.Path.{_≡_, refl, sym, ap, _∙_}
 use lib.Dec.{eqb, eqb·suc-zero}
 use lib.Bits.{bitAnd, bitOr, bitXor, and-le-l}
 use lib.ListN.{getD}
-use borrow.Author.Tests.{lt-leb}
 use Rattle.laws.specs.Search.{anyBelow}
 use Rattle.laws.specs.SearchLaws.{any-same, any-or, any-absent, if-or, and-false}
-use Rattle.laws.specs.Refusal.{Refusal, when, firstOf}
 use Rattle.dependence.specs.declared.Job.{Job}
 use Rattle.dependence.specs.Job.{inUse, accessAt}
 use Rattle.dependence.specs.Conflict.{conflicts}
 use Rattle.dependence.specs.Sort.{mayWrite}
 use Rattle.jobset.specs.JobSet.{bit}
 use Rattle.jobset.specs.Bits.{bit-zero, bit-and, bit-or, bit-without, any-bit}
-use Rattle.rules.specs.Walk.{writes, sourceBelow, looksBack}
-use Rattle.rules.specs.Snapshot.{Snapshot, neverStarted, isOut, isStored, isLive}
-use Rattle.rules.specs.Speculation.{waits, isReady, handedStale, isValid, isInvalid, unusable, sourceNow, sourceMissing}
-use Rattle.rules.specs.Call.{startOwn, startSpeculation, commit}
-use Rattle.rules.specs.Refusals.{stepTests, refusalOf}
+use Rattle.rules.specs.Walk.{writes, sourceBelow}
+use Rattle.rules.specs.Snapshot.{Snapshot, isStored, isLive}
+use Rattle.rules.specs.Speculation.{isReady, handedStale, unusable, sourceNow, sourceMissing}
 use Rattle.cellset.specs.declared.Cells.{Cells}
-use Rattle.cellset.specs.Cells.{anyMode, isUnpredicted, cellsOf, sharedWith}
+use Rattle.cellset.specs.Cells.{anyMode, isUnpredicted, cellsOf}
 use Rattle.cellset.specs.CellLaws.{word-fits, by-cell, sure-bit}
 use Rattle.cellset.specs.ConflictWords.{Within, sharesAt, shared-any, conflicts-cells}
-use Rattle.cellset.specs.Survey.{Columns, cellsAt, isOpen, noneEarlier, afterJob, unusableAfter, earlierThan, isReadyAfter, missesSource, allowedStep, allowedOf, allowedAt}
+use Rattle.cellset.specs.Survey.{Columns, cellsAt, isOpen, unusableAfter, earlierThan, isReadyAfter, missesSource}
 
 -- What the columns have to say of the snapshot's jobs. The words and `stale` are read for jobs that are not committed alone.
 pub record Tells (s : Snapshot) (of : Columns) : Type 0 where

@@ -1,5 +1,5 @@
 -- The pass of the survey, a job a turn.
-use Prim.Native.Nat.{ℕ, suc, _+_, _<_, _≤_}
+use Prim.Native.Nat.{ℕ, _+_, _<_, _≤_}
 use native.Mathlib.Omega.{arith}
 use native.Mathlib.Numerals.{add-one}
 use native.Mathlib.Nat.{eq-or-lt-of-le}
@@ -10,7 +10,6 @@ use mathlib.Core.Path.{_≡_, refl, _∙_}
 use lib.ListN.{length, getD, set, length-set}
 use lib.Seq.{getD-set-same, getD-set-other}
 use Rattle.laws.specs.Search.{anyBelow}
-use Rattle.cellset.specs.declared.survey.Earlier.{Earlier}
 use Rattle.cellset.specs.declared.survey.Seen.{Seen}
 use Rattle.cellset.specs.Survey.{Columns, cellsAt, isOpen, afterJob, noneEarlier, earlierThan, allowedAt, noneSeen, seenWith, seenBelow, Surveyed}
 

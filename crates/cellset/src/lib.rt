@@ -2,7 +2,7 @@
 
 ghost use mathlib.Core.Path.{_≡_};
 ghost use mathlib.Core.Bool.{cond};
-ghost use Prim.Native.Nat.{_<_};
+ghost use Prim.Native.Nat.{_<_, min};
 ghost use lib.Bits.{bitOr};
 ghost use Rattle.cellset.specs.Cells.{noCells, withPlace, cellsOf};
 use dependence::Job;
@@ -26,6 +26,16 @@ fn with_if(word: u64, test: bool, bit: u64) -> u64
         return word | bit;
     }
     word
+}
+
+/// How many of the four places are in use.
+fn places(arity: u8) -> usize
+    ensures { λ r. ⌜ r ≡ min arity 4 ⌝ }
+{
+    if arity < 4 {
+        return arity as usize;
+    }
+    4
 }
 
 impl Cells {
@@ -66,14 +76,19 @@ impl Cells {
         }
     }
 
-    /// The cells of the job.
+    /// The cells of the job. (A loop over the places in use is short enough to be inlined wherever it is called.)
     pub fn of(job: Job) -> Cells
         ensures { λ r. ⌜ r ≡ cellsOf job ⌝ }
     {
-        let a = Cells::none().with(job, 0);
-        let b = a.with(job, 1);
-        let c = b.with(job, 2);
-        c.with(job, 3)
+        let used = places(job.arity);
+        let mut cells = Cells::none();
+        let mut i: usize = 0;
+        while i < used {
+            let next = cells.with(job, i);
+            cells = next;
+            i += 1;
+        }
+        cells
     }
 
     /// The same for who asks of few jobs: a second caller of `of` would have it compiled as a function of its own, and the

@@ -1,5 +1,4 @@
 -- `allowed_step` meets its contract: each answer by the tests that led there.
-use mathlib.Core.Path.{sym, _∙_}
 use borrow.Author.Needs.{needs}
 use Rattle.cellset.proofs.survey.allowed_step.Statement.{statement}
 use Rattle.cellset.proofs.survey.allowed_step.Tie as tie
