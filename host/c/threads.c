@@ -132,18 +132,16 @@ enum { R = SORGHEMI_MODE_READ, W = SORGHEMI_MODE_WRITE, M = SORGHEMI_MODE_MAYBE_
 static void plan(sorghemi_batch *batch)
 {
     const int32_t heights[] = {2900, 1500, 1480, 1720, 1390, 1610};
-    const sorghemi_job jobs[] = {
+    const sorghemi_job_list list = {.count = 12, .jobs = {
         JOB(SPIKE, 1000, 2, {0, M}, {1, R}), JOB(SHIFT, 20, 1, {0, W}),
         JOB(SPIKE, 1000, 2, {2, M}, {3, R}), JOB(SHIFT, 20, 1, {2, W}),
         JOB(FLOOR, 1400, 1, {4, M}),         JOB(MEAN, 0, 3, {5, W}, {4, R}, {2, R}),
         JOB(PAIR, 0, 2, {0, M}, {2, M}),     JOB(FLOOR, 1400, 1, {1, M}),
         JOB(SHIFT, -15, 1, {1, W}),          JOB(MEAN, 0, 3, {3, W}, {0, R}, {1, R}),
         JOB(SPIKE, 30, 2, {5, M}, {3, R}),   JOB(SHIFT, 7, 1, {5, W}),
-    };
+    }};
     expect_accepted("open", sorghemi_batch_open(batch, heights, sizeof heights / sizeof *heights));
-    for (size_t job = 0; job < sizeof jobs / sizeof *jobs; job++) {
-        expect_accepted("insert", sorghemi_batch_insert(batch, jobs[job]));
-    }
+    expect_accepted("insert all", sorghemi_insert_all(batch, &list).refusal);
     expect_accepted("seal", sorghemi_batch_seal(batch, 1));
 }
 

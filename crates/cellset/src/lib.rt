@@ -90,15 +90,4 @@ impl Cells {
         }
         cells
     }
-
-    /// The same for who asks of few jobs: a second caller of `of` would have it compiled as a function of its own, and the
-    /// chooser, which asks of all jobs, would call it for each.
-    pub fn of_one(job: Job) -> Cells
-        ensures { λ r. ⌜ r ≡ cellsOf job ⌝ }
-    {
-        let a = Cells::none().with(job, 0);
-        let b = a.with(job, 1);
-        let c = b.with(job, 2);
-        c.with(job, 3)
-    }
 }

@@ -88,7 +88,7 @@ impl Walk {
         requires { ⌜ (k < 128) × Within job ⌝ }
         ensures { λ r. ⌜ r ≡ walkPast self job earlier k ⌝ }
     {
-        let cells = Cells::of_one(earlier);
+        let cells = Cells::of(earlier);
         let met = self.wanted & cells.sure;
         let wanted = (self.wanted | cells.sure) ^ cells.sure;
         let old = self.sources;
@@ -126,7 +126,7 @@ impl Origins {
         ensures { λ r. ⌜ r ≡ originsOf jobs committed j ⌝ }
     {
         let job = jobs[j];
-        let cells = Cells::of_one(job);
+        let cells = Cells::of(job);
         let mut walk = Walk {
             wanted: cells.back,
             sources: [0; 4],

@@ -109,18 +109,22 @@ fn hand_in(morning: &Morning, batch: &mut Batch, choice: Choice, report: Report)
 /// Six gauges. Of the tests some find something and some do not, so that guesses are kept and guesses are thrown away.
 fn plan() -> Result<Batch, Refusal> {
     let mut batch = Batch::open(&[2900, 1500, 1480, 1720, 1390, 1610])?;
-    batch.insert(Job::spike(0, 1, 1000))?;
-    batch.insert(Job::shift(0, 20))?;
-    batch.insert(Job::spike(2, 3, 1000))?;
-    batch.insert(Job::shift(2, 20))?;
-    batch.insert(Job::floor(4, 1400))?;
-    batch.insert(Job::mean(5, 4, 2))?;
-    batch.insert(Job::pair(0, 2))?;
-    batch.insert(Job::floor(1, 1400))?;
-    batch.insert(Job::shift(1, -15))?;
-    batch.insert(Job::mean(3, 0, 1))?;
-    batch.insert(Job::spike(5, 3, 30))?;
-    batch.insert(Job::shift(5, 7))?;
+    batch
+        .insert_all(&[
+            Job::spike(0, 1, 1000),
+            Job::shift(0, 20),
+            Job::spike(2, 3, 1000),
+            Job::shift(2, 20),
+            Job::floor(4, 1400),
+            Job::mean(5, 4, 2),
+            Job::pair(0, 2),
+            Job::floor(1, 1400),
+            Job::shift(1, -15),
+            Job::mean(3, 0, 1),
+            Job::spike(5, 3, 30),
+            Job::shift(5, 7),
+        ])
+        .map_err(|refused| refused.refusal)?;
     batch.seal(true)?;
     Ok(batch)
 }

@@ -20,13 +20,13 @@ mul-job c = search needs
 array-copy-out-job : tie.Need-array-copy-out-job Inv-loop μ-loop
 array-copy-out-job c = search needs
 
-of-one-requires : tie.Need-of-one-requires Inv-loop μ-loop
-of-one-requires c κs = search needs
+of-requires : tie.Need-of-requires Inv-loop μ-loop
+of-requires c κs = search needs
 
 loop-holds : tie.Need-loop-holds Inv-loop μ-loop
 loop-holds c =
     let s = c .before .before in
-    (omega arith, rw (c .of-one .ensures) (walk-start (s .args .t1) (s .args .t2) (s .args .j) (s .pre .0) (s .pre .1)))
+    (omega arith, rw (c .of .ensures) (walk-start (s .args .t1) (s .args .t2) (s .args .j) (s .pre .0) (s .pre .1)))
 
 found-requires : tie.Need-found-requires Inv-loop μ-loop
 found-requires c κs = search needs
@@ -112,7 +112,7 @@ of-spec =
     μ-loop
     mul-job
     array-copy-out-job
-    of-one-requires
+    of-requires
     loop-holds
     found-requires
     returns

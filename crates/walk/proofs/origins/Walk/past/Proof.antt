@@ -4,8 +4,8 @@ use borrow.Author.Tests.{eq-eqb, ne-eqb}
 use Rattle.walk.proofs.origins.Walk.past.Statement.{statement}
 use Rattle.walk.proofs.origins.Walk.past.Tie as tie
 
-of-one-requires : tie.Need-of-one-requires
-of-one-requires c κs = search needs
+of-requires : tie.Need-of-requires
+of-requires c κs = search needs
 
 add-noted : tie.Need-add-noted
 add-noted c = search needs
@@ -19,7 +19,7 @@ noted-requires c κs = search needs
 -- no cell that is still wanted may be written
 returns : tie.Need-returns
 returns c =
-    let cells = c .before .before .before .before .before .before .before .before .before .before .of-one .ensures in
+    let cells = c .before .before .before .before .before .before .before .before .before .before .of .ensures in
     rw (c .before .before .noted .ensures, cells, rw cells at (eq-eqb _ _ (c .if1 .taken)))
 
 with-requires : tie.Need-with-requires
@@ -29,7 +29,7 @@ with-requires c κs = search needs
 returns-2 : tie.Need-returns-2
 returns-2 c =
     let test = c .before in
-    let cells = test .before .before .before .before .before .before .before .before .before .before .of-one .ensures in
+    let cells = test .before .before .before .before .before .before .before .before .before .before .of .ensures in
     rw (
       c .with .ensures,
       test .before .before .noted .ensures,
@@ -40,4 +40,4 @@ returns-2 c =
 pub past-spec : {M : Type 1} → statement M
 past-spec =
     tie.close
-    (tie.spec of-one-requires add-noted cast-noted noted-requires returns with-requires returns-2)
+    (tie.spec of-requires add-noted cast-noted noted-requires returns with-requires returns-2)
