@@ -247,6 +247,19 @@ impl Batch {
         Ok(())
     }
 
+    /// R25: the jobs one after the other, each as `insert` takes it. That is done on a
+    /// copy: the first job that is refused ends it, and then nothing has changed. What is
+    /// told is the number of its refusal and its place in the list, from 0.
+    pub fn insert_list(&mut self, jobs: &[Job]) -> Result<(), (u32, usize)> {
+        let mut copy = self.clone();
+        for (place, job) in jobs.iter().enumerate() {
+            let inserted = copy.insert(job.kind, job.p, &job.accesses);
+            inserted.map_err(|refusal| (refusal, place))?;
+        }
+        *self = copy;
+        Ok(())
+    }
+
     /// R7: once for a batch, with guessing off (0) or on (1).
     pub fn seal(&mut self, guess: u32) -> Result<(), u32> {
         // R102: sealed already.

@@ -94,6 +94,15 @@ impl Ledger {
         }
     }
 
+    /// R161: an accepted list of jobs (R25) counts as the inserts of its jobs, in their
+    /// order; a refused one counts as no call.
+    pub fn enter_list(&mut self, jobs: &[Job], refusal: u8) {
+        if refusal == 0 {
+            let inserts = jobs.iter().map(|&job| Call::Insert(job));
+            inserts.for_each(|insert| self.enter(&insert, (0, [0; 4])));
+        }
+    }
+
     /// R41, as the ledger stands. Of a cell of the job the guess takes from the last
     /// open writer before it, and looks past the open maybe-writers after that one, or
     /// past all of them where there is none. R46: of a predicted one neither.

@@ -6,6 +6,7 @@ pub mod choosing;
 pub mod engine;
 pub mod former;
 pub mod frame;
+pub mod joblists;
 pub mod judging;
 pub mod kinds;
 pub mod ledger;

@@ -601,7 +601,7 @@ fn maybe_writer(dice: &mut Dice, number: usize, firsts: &[usize], writers: usize
 }
 
 /// The job as `engine` has it.
-fn plain(job: &Job) -> engine::Job {
+pub(crate) fn plain(job: &Job) -> engine::Job {
     engine::Job {
         kind: u32::from(job.kind),
         p: job.parameter,

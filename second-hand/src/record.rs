@@ -88,6 +88,25 @@ pub struct Job {
     pub predicted: [i32; 4],
 }
 
+/// R25: a list of jobs as it is lent: the first `count` of these, in their order. What
+/// stands in the other places is not looked at. A count may say more than there are
+/// places: so many jobs find no room in any batch (R2), and 3 is answered at the last
+/// place's end at the latest, before a job that is not there would be looked at.
+#[derive(Clone, PartialEq, Eq, Debug)]
+pub struct JobList {
+    pub count: usize,
+    /// Always 128.
+    pub jobs: Vec<Job>,
+}
+
+/// R25: what inserting a list answers: 0 or the refusal, and the place in the list of the
+/// job that is refused, 0 where none is.
+#[derive(Clone, Copy, PartialEq, Eq, Debug, Default)]
+pub struct Inserted {
+    pub refusal: u8,
+    pub at: u8,
+}
+
 /// R90: the one run that a job holds, its own or its guess.
 #[derive(Clone, Copy, PartialEq, Eq, Debug, Default)]
 pub struct Run {
@@ -274,7 +293,7 @@ impl Job {
     }
 
     /// With which of 4 to 8 inserting refuses this job; 0 with none of them.
-    fn refusal(&self, cell_count: u8) -> u8 {
+    pub(crate) fn refusal(&self, cell_count: u8) -> u8 {
         // R104: not 1 to 4 accesses.
         if self.arity < 1 || self.arity > 4 {
             return 4;
@@ -390,8 +409,14 @@ impl Record {
         if refusal != 0 {
             return refusal;
         }
-        // R92, R94: all of the place is overwritten, with zeros but for the job.
-        // R6, R3: the job is held as given, places not in use and predictions too.
+        self.take(job);
+        0
+    }
+
+    /// A job that is not refused comes into the next place. R92, R94: all of it is
+    /// overwritten, with zeros but for the job. R6, R3: the job is held as given, places
+    /// not in use and predictions too.
+    fn take(&mut self, job: Job) {
         let place = usize::from(self.job_count);
         self.jobs[place] = job;
         self.runs[place] = Run::default();
@@ -399,7 +424,34 @@ impl Record {
         self.running[place] = 0;
         self.phase[place] = NEVER_STARTED;
         self.job_count += 1;
-        0
+    }
+
+    /// R25: the jobs of the list one after the other. All are looked at before the first
+    /// is taken; what refuses one of 4 to 8 does not depend on the jobs before it, and 3
+    /// does so by their number alone.
+    pub fn insert_list(&mut self, list: &JobList) -> Inserted {
+        if !self.in_form() {
+            // R81: no job of the list is refused, so 0 stands in the place's place.
+            return Inserted { refusal: 32, at: 0 };
+        }
+        let room = usize::from(MOST_JOBS - self.job_count);
+        for place in 0..list.count {
+            let refusal = match place == room {
+                // R103: with the jobs before it 128 are held.
+                true => 3,
+                false => list.jobs[place].refusal(self.cell_count),
+            };
+            if refusal != 0 {
+                return Inserted {
+                    refusal,
+                    at: place as u8,
+                };
+            }
+        }
+        for &job in &list.jobs[..list.count] {
+            self.take(job);
+        }
+        Inserted::default()
     }
 
     /// R7, R94: sealed, once for a batch, with guessing off (0) or on (1).

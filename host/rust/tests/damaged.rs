@@ -1,17 +1,22 @@
 //! Damaged records: bytes of valid records are changed at random, every entry is called on what comes out (and on the valid
 //! ones), and each answer and the record after it are held against the second hand's (`second_hand::record`); what the chooser
 //! names also against the rules' words (`second_hand::picks`). The same on records in form whose jobs are in any state and were
-//! handed anything; and asking guesses that looked past any jobs. Anything stands in places of jobs that are not in use.
+//! handed anything; and asking guesses that looked past any jobs. Anything stands in places of jobs that are not in use, and in a
+//! list of jobs past those that are in it.
 //! DAMAGED=COUNT sets how many records, SEED=NUMBER which; it prints what was met (`cargo test --test damaged -- --nocapture`).
 
 mod met;
 mod sets;
 mod setting;
+#[allow(dead_code)] // Forms of a list that only tests/lists.rs needs.
 mod theirs;
 
 use met::{add, print};
 use second_hand::choosing::Watch;
+use second_hand::joblists::{any_list, any_place};
 use second_hand::picks::{pick, Field};
+use second_hand::plans::Dice;
+use second_hand::record::JobList;
 use sets::Sets;
 use setting::setting;
 use sorghemi::raw::{sorghemi_step_by_value, JobAnswer, JobSet, Run, TallyAnswer};
@@ -455,10 +460,34 @@ impl Met {
         }
     }
 
-    /// R6: jobs have to be taken before sealing and after it, and runs of the latter started.
+    /// Inserts lists of jobs on copies of the record (R25): an empty one, one for as many jobs as there is room for, and one as for
+    /// an empty batch. The dice are their own, so that what comes after does not depend on how many these are.
+    fn insert_all(&mut self, record: &Record, random: &Random) {
+        let mut dice = Dice::new(random.0, 25);
+        let (cells, jobs) = (record.cell_count.clamp(1, 64) as usize, record.job_count.min(128) as usize);
+        let none = JobList::of(&[], || any_place(&mut dice, cells));
+        for list in [none, any_list(&mut dice, cells, 128 - jobs), any_list(&mut dice, cells, 128)] {
+            let mut both = Both::of(record);
+            let answer = both.insert_all(&list);
+            assert!(both.ours == *record || answer.refusal == 0, "R81: {list:?} changed {record:?}");
+            self.answer(if list.count == 0 { "insert all, none" } else { "insert all" }, answer.refusal);
+            if answer.refusal == 0 && both.ours.sealed == 1 && list.count > 0 {
+                // The last of the list is asked for and started.
+                let (last, number) = (both.ours.job_count as usize - 1, dice.below(2) as u8);
+                both.ask_job(last);
+                self.answer("a start of the last of a list", both.step(number, last, Report::default()).0);
+            }
+        }
+    }
+
+    /// R6, R25: jobs have to be taken before sealing and after it, and runs of the latter started; and so have lists.
     fn inserts_came_up(&self) {
-        for entry in ["insert, not sealed", "insert, sealed", "a start of the added job"] {
+        let lists = ["insert all, none", "insert all", "a start of the last of a list"];
+        for entry in ["insert, not sealed", "insert, sealed", "a start of the added job"].into_iter().chain(lists) {
             assert!(self.answers.contains_key(&(entry, 0)), "never accepted: {entry}");
+        }
+        for refusal in 3..9 {
+            assert!(self.answers.contains_key(&("insert all", refusal)), "no list refused with {refusal}");
         }
     }
 
@@ -510,6 +539,7 @@ fn try_every_entry(record: &Record, random: &mut Random, met: &mut Met) -> Tally
     met.ask_job(&both, random.around(jobs));
     met.answer("copy out", both.copy_out(random.around(cells + 4), random.around(4)));
     met.insert(record, random.job(cells), random);
+    met.insert_all(record, random);
     met.answer("seal", Both::of(record).seal(random.below(3) as u8));
     for number in 0..6 {
         let job = job_for(number, record, random);

@@ -1,10 +1,10 @@
 //! A batch worked by a list of calls (`second_hand::lists`) in three hands at once: the library, the second hand's record and
 //! its other engine.
 
-use crate::theirs::Both;
+use crate::theirs::{given_job, Both};
 use second_hand::lists::{Answer, Call};
 use second_hand::{engine, record};
-use sorghemi::{Access, Batch, Job, Report};
+use sorghemi::{Batch, Report};
 
 #[derive(Clone)]
 pub struct Hands {
@@ -21,14 +21,19 @@ impl Hands {
     /// Makes the call in all hands; they answer the same.
     pub fn make(&mut self, call: &Call) -> Answer {
         let answer = match *call {
-            Call::Insert(record::Job { kind, arity, accesses, parameter, predicted }) => {
-                let accesses = accesses.map(|(cell, mode)| Access { cell, mode });
-                (self.both.insert(Job { kind, arity, accesses, parameter, predicted }), [0; 4])
-            }
+            Call::Insert(job) => (self.both.insert(given_job(&job)), [0; 4]),
             Call::Seal(guessing) => (self.both.seal(guessing), [0; 4]),
             Call::Step { number, job, values, mark } => self.both.step(number, job, Report { values, wrote: mark }),
         };
         assert_eq!(answer, call.on_batch(&mut self.third), "{call:?} left {:?}", self.both.ours);
+        answer
+    }
+
+    /// Inserts the list in all hands; they answer the same.
+    #[allow(dead_code)] // Only tests/lists.rs does.
+    pub fn insert_all(&mut self, list: &record::JobList) -> record::Inserted {
+        let answer = self.both.insert_all(list);
+        assert_eq!(answer, list.on_batch(&mut self.third), "insert {list:?} left {:?}", self.both.ours);
         answer
     }
 }

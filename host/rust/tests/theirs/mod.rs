@@ -3,7 +3,7 @@
 use second_hand::sets::{GuessTold, Told};
 use second_hand::{record, tally};
 use sorghemi::raw::*;
-use sorghemi::{Job, Record, Report, Tally};
+use sorghemi::{Access, Job, Record, Report, Tally};
 
 #[derive(Clone)]
 pub struct Both {
@@ -24,6 +24,22 @@ pub fn read_job(job: &Job) -> record::Job {
         parameter: job.parameter,
         predicted: job.predicted,
     }
+}
+
+/// The second hand's job in the library's form.
+pub fn given_job(&record::Job { kind, arity, accesses, parameter, predicted }: &record::Job) -> Job {
+    Job { kind, arity, accesses: accesses.map(|(cell, mode)| Access { cell, mode }), parameter, predicted }
+}
+
+/// The second hand's list of jobs in the library's form.
+pub fn given_list(list: &record::JobList) -> JobList {
+    let mut places = list.jobs.iter().map(given_job);
+    JobList { count: list.count, jobs: [(); 128].map(|()| places.next().unwrap()) }
+}
+
+/// The library's list of jobs as the second hand reads it.
+pub fn read_list(list: &JobList) -> record::JobList {
+    record::JobList { count: list.count, jobs: list.jobs.iter().map(read_job).collect() }
 }
 
 /// The library's tally with the second hand's names.
@@ -63,6 +79,17 @@ impl Both {
         self.ours = answer.batch;
         self.same_record("insert");
         answer.refusal
+    }
+
+    /// R25; R9: the list stays as it is.
+    pub fn insert_all(&mut self, list: &record::JobList) -> record::Inserted {
+        let (before, lent) = (self.ours, given_list(list));
+        let Inserted { refusal, at } = unsafe { sorghemi_insert_all(&mut self.ours, &lent) };
+        let theirs = self.theirs.insert_list(list);
+        assert_eq!((refusal, at), (theirs.refusal, theirs.at), "insert {list:?} into {before:?}");
+        assert_eq!(read_list(&lent), *list);
+        self.same_record("insert all");
+        theirs
     }
 
     pub fn seal(&mut self, guessing: u8) -> u8 {
