@@ -5,8 +5,8 @@
 use sorghemi::raw::{
     sorghemi_answer_plan, sorghemi_ask_batch, sorghemi_ask_cell, sorghemi_ask_job,
     sorghemi_ask_speculation, sorghemi_ask_tally, sorghemi_choose, sorghemi_copy_out,
-    sorghemi_insert, sorghemi_kept_share, sorghemi_open, sorghemi_result, sorghemi_seal,
-    sorghemi_step, sorghemi_step_by_value, sorghemi_total, Access, Answer,
+    sorghemi_insert, sorghemi_insert_all, sorghemi_kept_share, sorghemi_open, sorghemi_result,
+    sorghemi_seal, sorghemi_step, sorghemi_step_by_value, sorghemi_total, Access, Answer, JobList,
 };
 use sorghemi::{Record, Report, Tally};
 
@@ -36,7 +36,7 @@ pub fn result(job: &Job, handed: [i32; 4]) -> Option<([i32; 4], u8)> {
 }
 
 /// The stack that the library's other calls touch, on the sealed batch and on a plan.
-pub fn other_stacks(batch: &Batch, plan: &str) -> [(&'static str, usize); 11] {
+pub fn other_stacks(batch: &Batch, plan: &str) -> [(&'static str, usize); 12] {
     let Lent(record) = prepare(batch, &mut Unwatched);
     let job = &batch.jobs[0];
     let heights = &batch.heights;
@@ -47,6 +47,12 @@ pub fn other_stacks(batch: &Batch, plan: &str) -> [(&'static str, usize); 11] {
     let (answer, size) = (buffer.as_mut_ptr(), buffer.len());
     // SAFETY: the pointers are valid for their lengths.
     let open = stack::of(|| unsafe { sorghemi_open(heights.as_ptr(), places) });
+    let list = JobList {
+        count: batch.jobs.len(),
+        jobs: std::array::from_fn(|at| read(&batch.jobs[at % batch.jobs.len()])),
+    };
+    let Lent(mut filled) = Lent::open(heights);
+    let insert_all = stack::of(|| unsafe { sorghemi_insert_all(&mut filled, &list) });
     let ask_cell = stack::of(|| unsafe { sorghemi_ask_cell(record, 0) });
     let ask_job = stack::of(|| unsafe { sorghemi_ask_job(record, 0) });
     let ask_guess = stack::of(|| unsafe { sorghemi_ask_speculation(record, 0) });
@@ -59,6 +65,7 @@ pub fn other_stacks(batch: &Batch, plan: &str) -> [(&'static str, usize); 11] {
     let answer = stack::of(|| unsafe { sorghemi_answer_plan(text, length, answer, size) });
     [
         ("open", open),
+        ("insert all", insert_all),
         ("ask cell", ask_cell),
         ("ask job", ask_job),
         ("ask guess", ask_guess),
