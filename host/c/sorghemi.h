@@ -175,6 +175,7 @@ typedef struct {
 
 /* What a call that is accepted changes of the record, and nothing else changes (R94 of docs/RULES.md):
  * insert: the job comes into the first place not in use, with zeros in its run and in the other columns; job_count grows.
+ * insert_all: so for each job of the list.
  * seal: sealed becomes 1, speculating what the host says.
  * step 0: the job's run becomes the values handed out, zeros else; running becomes 1, and a phase other than 0 becomes 3.
  * step 1: the job's run becomes the values handed out with their sources and bypassed, zeros else; phase becomes 1.

@@ -90,8 +90,8 @@ pub struct Job {
 
 /// R25: a list of jobs as it is lent: the first `count` of these, in their order. What
 /// stands in the other places is not looked at. A count may say more than there are
-/// places: so many jobs find no room in any batch (R2), and 3 is answered at the last
-/// place's end at the latest, before a job that is not there would be looked at.
+/// places: so many jobs find no room in any batch (R2), so 3 is answered at place 128 at
+/// the latest, and what would stand there does not matter.
 #[derive(Clone, PartialEq, Eq, Debug)]
 pub struct JobList {
     pub count: usize,
