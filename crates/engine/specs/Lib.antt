@@ -22,3 +22,5 @@ pub mod InvalidRun
 pub mod Chooser
 pub mod ChooserPass
 pub mod ChooserLaws
+pub mod Turn
+pub mod TurnChange

@@ -74,6 +74,41 @@ pub struct InsertedAll {
     pub batch: Batch,
 }
 
+/// A step that a turn took: its number 4, 0 or 1, its job, and the values handed to the run that it started, 0 each for step 4.
+#[repr(C)]
+pub struct Taken {
+    pub step: u8,
+    pub job: u8,
+    pub handed: [i32; 4],
+}
+
+/// The steps of a turn, in their order. The places after the last one hold zeros.
+#[repr(C)]
+pub struct StepList {
+    pub taken: [Taken; 16],
+}
+
+/// A job and the run that it holds after a step on it.
+pub struct JobRun {
+    pub job: u8,
+    pub run: Run,
+}
+
+/// What a turn comes to: the number of its refusal, or 0 and then its steps and what is to be stored of it: the first `stored`
+/// of the runs `changed`, each in the place of its job, the cells and the jobs' states. Where the number is not 0, nothing is
+/// changed, and what else stands here is blank.
+pub struct TurnChange {
+    pub refusal: u8,
+    pub count: u8,
+    pub stored: u8,
+    pub steps: StepList,
+    pub changed: [JobRun; 17],
+    pub cells: [i32; 64],
+    pub committed: [u8; 128],
+    pub running: [u8; 128],
+    pub phase: [u8; 128],
+}
+
 /// What a start answers: the values handed to the run too, 0 each where it is refused.
 #[repr(C)]
 pub struct Started {
