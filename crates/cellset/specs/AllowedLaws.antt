@@ -1,8 +1,8 @@
--- The step that the pass tells of a job is the one that the rules allow on it, of the three that the chooser names.
+-- The rank that the pass tells of a job is that of the step which the rules allow on it, of the three that the chooser names.
 use Prim.Native.Nat.{ℕ, _<_}
 use mathlib.Core.Bool.{Bool, true, false, cond, not, _&&_, _||_}
 use mathlib.Core.List.{List, [], _∷_}
-use mathlib.Core.Path.{_≡_, refl, ap, _∙_}
+use mathlib.Core.Path.{_≡_, refl, sym}
 use lib.Dec.{eqb}
 use lib.ListN.{getD}
 use borrow.Author.Tests.{lt-leb}
@@ -12,35 +12,41 @@ use Rattle.rules.specs.Snapshot.{Snapshot, neverStarted, isOut, isStored, isLiv
 use Rattle.rules.specs.Speculation.{isReady, handedStale, isValid, isInvalid, sourceMissing}
 use Rattle.rules.specs.Call.{startOwn, startSpeculation, commit}
 use Rattle.rules.specs.Refusals.{stepTests, refusalOf}
-use Rattle.cellset.specs.Survey.{Columns, isOpen, allowedAt}
+use Rattle.cellset.specs.Survey.{Columns, isOpen, maySpeculate, judgedRank, finalRank, rankAt}
 use Rattle.cellset.specs.SurveyLaws.{Tells, ready-told, missing-told}
 
--- The step told of an open job, by what may be done with it.
+-- The rank of the first of the steps 4, 0 and 1 that is allowed, and on a job by the rules.
+abbrev pub firstRank : Bool → Bool → Bool → ℕ
+firstRank commits starts guesses = cond commits 3 (cond starts 2 (cond guesses 1 0))
 
-abbrev toldBy : Bool → Bool → Bool → Bool → ℕ
-toldBy ready commits starts guesses = cond ready (cond commits 5 (cond starts 1 0)) (cond guesses 2 0)
+abbrev pub allowedRank : Snapshot → ℕ → ℕ
+allowedRank s j =
+    firstRank (eqb (refusalOf s (commit j)) 0) (eqb (refusalOf s (startOwn j)) 0) (eqb (refusalOf s (startSpeculation j)) 0)
 
-told-five : (ready commits starts guesses : Bool) → eqb (toldBy ready commits starts guesses) 5 ≡ (ready && commits)
-told-five true true starts guesses = refl
-told-five true false true guesses = refl
-told-five true false false guesses = refl
-told-five false commits starts true = refl
-told-five false commits starts false = refl
-
-told-one : (ready commits starts guesses : Bool)
-    → eqb (toldBy ready commits starts guesses) 1 ≡ (ready && (not commits && starts))
-told-one true true starts guesses = refl
-told-one true false true guesses = refl
-told-one true false false guesses = refl
-told-one false commits starts true = refl
-told-one false commits starts false = refl
-
-told-two : (ready commits starts guesses : Bool) → eqb (toldBy ready commits starts guesses) 2 ≡ (not ready && guesses)
-told-two true true starts guesses = refl
-told-two true false true guesses = refl
-told-two true false false guesses = refl
-told-two false commits starts true = refl
-told-two false commits starts false = refl
+-- Of an open job, by what may be done with it: the rank told, judged where that is due, is that of the first step allowed.
+told-open : (ready idle out stored stale guesses : Bool)
+    → finalRank (cond ready (cond (out || stored) 4 (cond idle 2 0)) (cond guesses 1 0)) (cond stale (cond idle 2 0) (cond stored 3 0))
+    ≡ firstRank (ready && (stored && not ((out || stored) && stale)))
+    (ready && (not (stored && not ((out || stored) && stale)) && (idle && not ((out || stored) && not ((out || stored) && stale)))))
+    (not ready && guesses)
+told-open true true true true true guesses = refl
+told-open true true true true false guesses = refl
+told-open true true true false true guesses = refl
+told-open true true true false false guesses = refl
+told-open true true false true true guesses = refl
+told-open true true false true false guesses = refl
+told-open true true false false true guesses = refl
+told-open true true false false false guesses = refl
+told-open true false true true true guesses = refl
+told-open true false true true false guesses = refl
+told-open true false true false true guesses = refl
+told-open true false true false false guesses = refl
+told-open true false false true true guesses = refl
+told-open true false false true false guesses = refl
+told-open true false false false true guesses = refl
+told-open true false false false false guesses = refl
+told-open false idle out stored stale true = refl
+told-open false idle out stored stale false = refl
 
 -- The rules' tests of an open job come to the same. The pass takes a value for stale only where there is a guess.
 
@@ -102,63 +108,63 @@ settled-second true rest = refl
 settled-second false rest = refl
 
 module _ (s : Snapshot) (of : Columns) (tells : Tells s of) (sealed : s .sealed ≡ true) (j : ℕ) (held : j < s .jobCount) where
-  abbrev stepTold : ℕ
-  stepTold = allowedAt of (s .speculating) j
-
   -- The first tests of every step pass, and the others decide.
   held-then : (rest : List Refusal) → firstOf (stepTests s j rest) ≡ firstOf rest
   unfolding firstOf
   held-then rest = rw (sealed, lt-leb (s .jobCount) j held)
 
-  -- What is told of an open job, in the snapshot's words.
+  -- What the rules allow on an open job, by the tests that the pass makes.
 
-  abbrev commits : Bool
-  commits = isStored (s .phase j) && not (isLive (s .phase j) && handedStale s j)
-
-  abbrev starts : Bool
-  starts = eqb (getD (of .running) j 0) 0 && not (isLive (s .phase j) && not (isLive (s .phase j) && handedStale s j))
-
-  abbrev guesses : Bool
-  guesses = s .speculating && (eqb (getD (of .running) j 0) 0 && (neverStarted (s .phase j) && not (sourceMissing s j)))
-
-  open-told : isOpen of j ≡ true → stepTold ≡ toldBy (isReady s j) commits starts guesses
-  open-told e =
-      rw (e, ready-told s of tells j held e, missing-told s of tells j held e, tells .stale j held e, ← tells .phases j)
-
-  -- So it is each of the three steps just where that is not refused.
-
-  pub told-commit : eqb stepTold 5 ≡ eqb (refusalOf s (commit j)) 0
+  commit-open : isOpen of j ≡ true
+      → eqb (refusalOf s (commit j)) 0 ≡ (isReady s j && (isStored (s .phase j) && not (isLive (s .phase j) && handedStale s j)))
   unfolding refusalOf isInvalid
-  told-commit =
-      rw (held-then _, tells .settled j)
-      (if-or (isOpen of j)
-      (λ e.
-      ap (λ (step : ℕ). eqb step 5) (open-told e)
-      ∙ told-five (isReady s j) commits starts guesses
-      ∙ commit-tests (isReady s j) (isOut (s .phase j)) (isStored (s .phase j)) (handedStale s j)
-      ∙ rw e)
-      (λ e. rw e (settled-first _)))
+  commit-open e =
+      rw (held-then _, tells .settled j, e)
+      (sym (commit-tests (isReady s j) (isOut (s .phase j)) (isStored (s .phase j)) (handedStale s j)))
 
-  pub told-own : eqb stepTold 1 ≡ eqb (refusalOf s (startOwn j)) 0
+  own-open : isOpen of j ≡ true
+      → eqb (refusalOf s (startOwn j)) 0
+      ≡ (isReady s j
+      && (not (isStored (s .phase j) && not (isLive (s .phase j) && handedStale s j))
+      && (eqb (getD (of .running) j 0) 0 && not (isLive (s .phase j) && not (isLive (s .phase j) && handedStale s j)))))
   unfolding refusalOf isValid
-  told-own =
-      rw (held-then _, tells .settled j, tells .running j)
-      (if-or (isOpen of j)
-      (λ e.
-      ap (λ (step : ℕ). eqb step 1) (open-told e)
-      ∙ told-one (isReady s j) commits starts guesses
-      ∙ own-tests (isReady s j) (eqb (getD (of .running) j 0) 0) (isOut (s .phase j)) (isStored (s .phase j)) (handedStale s j)
-      ∙ rw e)
-      (λ e. rw e (settled-first _)))
+  own-open e =
+      rw (held-then _, tells .settled j, tells .running j, e)
+      (sym
+      (own-tests (isReady s j) (eqb (getD (of .running) j 0) 0) (isOut (s .phase j)) (isStored (s .phase j)) (handedStale s j)))
 
-  pub told-speculation : eqb stepTold 2 ≡ eqb (refusalOf s (startSpeculation j)) 0
+  guess-open : isOpen of j ≡ true
+      → eqb (refusalOf s (startSpeculation j)) 0
+      ≡ (not (isReady s j) && maySpeculate (s .speculating) (getD (of .running) j 0) (s .phase j) (sourceMissing s j))
   unfolding refusalOf
-  told-speculation =
-      rw (held-then _, tells .settled j, tells .running j)
-      (if-or (isOpen of j)
+  guess-open e =
+      rw (held-then _, tells .settled j, tells .running j, e)
+      (sym
+      (guess-tests (isReady s j) (s .speculating) (eqb (getD (of .running) j 0) 0) (neverStarted (s .phase j)) (sourceMissing s j)))
+
+  -- On a settled job none of the three is allowed.
+
+  commit-settled : isOpen of j ≡ false → eqb (refusalOf s (commit j)) 0 ≡ false
+  unfolding refusalOf
+  commit-settled e = rw (held-then _, tells .settled j, e) (sym (settled-first _))
+
+  own-settled : isOpen of j ≡ false → eqb (refusalOf s (startOwn j)) 0 ≡ false
+  unfolding refusalOf
+  own-settled e = rw (held-then _, tells .settled j, e) (sym (settled-first _))
+
+  guess-settled : isOpen of j ≡ false → eqb (refusalOf s (startSpeculation j)) 0 ≡ false
+  unfolding refusalOf
+  guess-settled e = rw (held-then _, tells .settled j, e) (sym (settled-second (s .speculating) _))
+
+  pub none-settled : isOpen of j ≡ false → allowedRank s j ≡ 0
+  none-settled e = rw (commit-settled e, own-settled e, guess-settled e)
+
+  pub told-rank : finalRank (rankAt of (s .speculating) j) (judgedRank (getD (of .running) j 0) (s .phase j) (handedStale s j))
+      ≡ allowedRank s j
+  told-rank =
+      if-or (isOpen of j)
       (λ e.
-      ap (λ (step : ℕ). eqb step 2) (open-told e)
-      ∙ told-two (isReady s j) commits starts guesses
-      ∙ guess-tests (isReady s j) (s .speculating) (eqb (getD (of .running) j 0) 0) (neverStarted (s .phase j)) (sourceMissing s j)
-      ∙ rw e)
-      (λ e. rw e (settled-second (s .speculating) _)))
+      rw (e, ready-told s of tells j held e, missing-told s of tells j held e, ← tells .phases j, commit-open e, own-open e, guess-open e)
+      (told-open (isReady s j) (eqb (getD (of .running) j 0) 0) (isOut (s .phase j)) (isStored (s .phase j)) (handedStale s j)
+      (maySpeculate (s .speculating) (getD (of .running) j 0) (s .phase j) (sourceMissing s j))))
+      (λ e. rw e (sym (none-settled e)))

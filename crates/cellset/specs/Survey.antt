@@ -1,16 +1,14 @@
 -- Which step is allowed on each job, by one pass over columns of numbers that keeps three sets of cells.
 use Prim.Native.Nat.{ℕ, zero, suc, _<_}
-use mathlib.Core.Bool.{Bool, false, cond, not, _&&_, _||_}
+use mathlib.Core.Bool.{Bool, cond, not, _&&_}
 use mathlib.Core.List.{List}
 use mathlib.Core.Path.{_≡_}
 use lib.Dec.{eqb}
 use lib.Bits.{bitAnd, bitOr, bitXor}
 use lib.ListN.{length, getD}
-use Rattle.laws.specs.Search.{anyBelow}
 use Rattle.rules.specs.Snapshot.{neverStarted, isStored, isLive}
 use Rattle.cellset.specs.declared.Cells.{Cells}
 use Rattle.cellset.specs.declared.survey.Earlier.{Earlier}
-use Rattle.cellset.specs.declared.survey.Seen.{Seen}
 use Rattle.cellset.specs.Cells.{sharedWith}
 
 -- Of the jobs passed that are not committed: none yet, and with one more.
@@ -38,22 +36,26 @@ isReadyAfter earlier cells = eqb (sharedWith cells (earlier .named) (earlier .wr
 abbrev pub missesSource : Earlier → Cells → Bool
 missesSource earlier cells = not (eqb (bitAnd (cells .back) (earlier .unusable)) 0)
 
--- What may be done with a job that is not committed: with a ready one, and with another.
-
-abbrev pub mayCommit : ℕ → Bool → Bool
-mayCommit phase stale = isStored phase && not stale
-
-abbrev pub mayStartOwn : ℕ → ℕ → Bool → Bool
-mayStartOwn running phase stale = eqb running 0 && not (isLive phase && not stale)
-
+-- Of a job that is not ready a guess may be started.
 abbrev pub maySpeculate : Bool → ℕ → ℕ → Bool → Bool
 maySpeculate on running phase missing = on && (eqb running 0 && (neverStarted phase && not missing))
 
--- As one more than the step's number.
-abbrev pub allowedStep : Bool → ℕ → ℕ → Bool → Bool → Bool → ℕ
-allowedStep on running phase ready stale missing =
-    cond ready (cond (mayCommit phase stale) 5 (cond (mayStartOwn running phase stale) 1 0))
-    (cond (maySpeculate on running phase missing) 2 0)
+-- Which step is allowed on a job is told as a rank, in the order in which the chooser takes them: 3 for step 4, 2 for step 0, 1
+-- for step 1, 0 for none of them. 4 says that a guess is to be judged: the job is ready, and its guess out or stored.
+
+abbrev pub ownRank : ℕ → ℕ
+ownRank running = cond (eqb running 0) 2 0
+
+abbrev pub rankOf : Bool → ℕ → ℕ → Bool → Bool → ℕ
+rankOf on running phase ready missing =
+    cond ready (cond (isLive phase) 4 (ownRank running)) (cond (maySpeculate on running phase missing) 1 0)
+
+-- Judged, a guess with a stale value has fallen.
+abbrev pub judgedRank : ℕ → ℕ → Bool → ℕ
+judgedRank running phase stale = cond stale (ownRank running) (cond (isStored phase) 3 0)
+
+abbrev pub finalRank : ℕ → ℕ → ℕ
+finalRank rank judged = cond (eqb rank 4) judged rank
 
 -- The columns that the pass reads.
 pub record Columns : Type 0 where
@@ -64,10 +66,9 @@ pub record Columns : Type 0 where
   pub committed : List ℕ
   pub running : List ℕ
   pub phase : List ℕ
-  pub stale : List ℕ
 
-abbrev pub columns : List ℕ → List ℕ → List ℕ → List ℕ → List ℕ → List ℕ → List ℕ → List ℕ → Columns
-columns named written sure back committed running phase stale =
+abbrev pub columns : List ℕ → List ℕ → List ℕ → List ℕ → List ℕ → List ℕ → List ℕ → Columns
+columns named written sure back committed running phase =
     record {
       named = named;
       written = written;
@@ -76,7 +77,6 @@ columns named written sure back committed running phase stale =
       committed = committed;
       running = running;
       phase = phase;
-      stale = stale;
     }
 
 module _ (of : Columns) where
@@ -97,37 +97,14 @@ module _ (of : Columns) where
   earlierThan (suc j) = cond (isOpen j) (afterJob (earlierThan j) (cellsAt j) (getD (of .phase) j 0)) (earlierThan j)
 
   -- What the pass tells of job j.
-  abbrev pub allowedOf : Bool → ℕ → Earlier → ℕ
-  allowedOf on j earlier =
-      allowedStep on (getD (of .running) j 0) (getD (of .phase) j 0) (isReadyAfter earlier (cellsAt j))
-      (not (eqb (getD (of .stale) j 0) 0)) (missesSource earlier (cellsAt j))
+  abbrev pub openRank : Bool → ℕ → Earlier → ℕ
+  openRank on j earlier =
+      rankOf on (getD (of .running) j 0) (getD (of .phase) j 0) (isReadyAfter earlier (cellsAt j)) (missesSource earlier (cellsAt j))
 
-  abbrev pub allowedAt : Bool → ℕ → ℕ
-  allowedAt on j = cond (isOpen j) (allowedOf on j (earlierThan j)) 0
-
--- Which of the steps were seen.
-
-abbrev pub noneSeen : Seen
-noneSeen = record { commit = false; own = false; speculation = false }
-
-abbrev pub seenWith : ℕ → Seen → Seen
-seenWith step seen =
-    record {
-      commit = eqb step 5 || seen .commit;
-      own = eqb step 1 || seen .own;
-      speculation = eqb step 2 || seen .speculation;
-    }
-
-abbrev pub seenBelow : ℕ → (ℕ → ℕ) → Seen
-seenBelow n step =
-    record {
-      commit = anyBelow n (λ j. eqb (step j) 5);
-      own = anyBelow n (λ j. eqb (step j) 1);
-      speculation = anyBelow n (λ j. eqb (step j) 2);
-    }
+  abbrev pub rankAt : Bool → ℕ → ℕ
+  rankAt on j = cond (isOpen j) (openRank on j (earlierThan j)) 0
 
 -- What the pass over n jobs leaves.
-pub record Surveyed (on : Bool) (of : Columns) (n : ℕ) (allowed : List ℕ) (seen : Seen) : Type 0 where
-  pub long : length allowed ≡ 128
-  pub told : (j : ℕ) → j < n → getD allowed j 0 ≡ allowedAt of on j
-  pub met : seen ≡ seenBelow n (allowedAt of on)
+pub record Surveyed (on : Bool) (of : Columns) (n : ℕ) (ranks : List ℕ) : Type 0 where
+  pub long : length ranks ≡ 128
+  pub told : (j : ℕ) → j < n → getD ranks j 0 ≡ rankAt of on j

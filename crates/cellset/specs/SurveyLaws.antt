@@ -16,22 +16,20 @@ use Rattle.dependence.specs.Sort.{mayWrite}
 use Rattle.jobset.specs.JobSet.{bit}
 use Rattle.jobset.specs.Bits.{bit-zero, bit-and, bit-or, bit-without, any-bit}
 use Rattle.rules.specs.Walk.{writes, sourceBelow}
-use Rattle.rules.specs.Snapshot.{Snapshot, isStored, isLive}
-use Rattle.rules.specs.Speculation.{isReady, handedStale, unusable, sourceNow, sourceMissing}
+use Rattle.rules.specs.Snapshot.{Snapshot, isStored}
+use Rattle.rules.specs.Speculation.{isReady, unusable, sourceNow, sourceMissing}
 use Rattle.cellset.specs.declared.Cells.{Cells}
 use Rattle.cellset.specs.Cells.{anyMode, isUnpredicted, cellsOf}
 use Rattle.cellset.specs.CellLaws.{word-fits, by-cell, sure-bit}
 use Rattle.cellset.specs.ConflictWords.{Within, sharesAt, shared-any, conflicts-cells}
 use Rattle.cellset.specs.Survey.{Columns, cellsAt, isOpen, unusableAfter, earlierThan, isReadyAfter, missesSource}
 
--- What the columns have to say of the snapshot's jobs. The words and `stale` are read for jobs that are not committed alone.
+-- What the columns have to say of the snapshot's jobs. The words are read for jobs that are not committed alone.
 pub record Tells (s : Snapshot) (of : Columns) : Type 0 where
   pub settled : (i : ℕ) → s .committed i ≡ not (isOpen of i)
   pub running : (i : ℕ) → s .running i ≡ not (eqb (getD (of .running) i 0) 0)
   pub phases : (i : ℕ) → s .phase i ≡ getD (of .phase) i 0
   pub cells : (i : ℕ) → i < s .jobCount → isOpen of i ≡ true → cellsAt of i ≡ cellsOf (s .job i)
-  pub stale : (i : ℕ) → i < s .jobCount → isOpen of i ≡ true
-      → not (eqb (getD (of .stale) i 0) 0) ≡ (isLive (s .phase i) && handedStale s i)
   pub within : (i : ℕ) → i < s .jobCount → Within (s .job i)
 
 module _ (s : Snapshot) (of : Columns) (tells : Tells s of) where

@@ -1,10 +1,10 @@
-//! One pass over the jobs that tells which step is allowed on each: the jobs and their states as columns of numbers.
+//! One pass over the jobs that tells which step is allowed on each, as a rank: the jobs and their states as columns of numbers.
 
 ghost use mathlib.Core.Path.{_≡_};
 ghost use Prim.Native.Nat.{_≤_};
 ghost use lib.ListN.{length};
 ghost use Rattle.cellset.specs.Survey.{noneEarlier, isReadyAfter, missesSource, afterJob};
-ghost use Rattle.cellset.specs.Survey.{mayCommit, mayStartOwn, maySpeculate, allowedStep, noneSeen, seenWith};
+ghost use Rattle.cellset.specs.Survey.{maySpeculate, ownRank, rankOf, judgedRank};
 ghost use Rattle.cellset.specs.Survey.{columns, Surveyed};
 use crate::Cells;
 
@@ -14,13 +14,6 @@ struct Earlier {
     named: u64,
     written: u64,
     unusable: u64,
-}
-
-/// Which of the steps 4, 0 and 1 were seen to be allowed on some job.
-pub struct Seen {
-    pub commit: bool,
-    pub own: bool,
-    pub speculation: bool,
 }
 
 impl Earlier {
@@ -71,30 +64,14 @@ impl Earlier {
     }
 }
 
-/// Whether the speculative run of a ready job may be committed: its report is stored, and no value handed to it is stale.
-fn may_commit(phase: u8, stale: bool) -> bool
-    ensures { λ r. ⌜ r ≡ mayCommit phase stale ⌝ }
+/// The rank of a ready job on which step 0 is all that may be allowed: 2, or 0 where its own run is out.
+fn own_rank(running: u8) -> u8
+    ensures { λ r. ⌜ r ≡ ownRank running ⌝ }
 {
-    if phase == 2 {
-        return !stale;
+    if running == 0 {
+        return 2;
     }
-    false
-}
-
-/// Whether the own run of a ready job may be started: it is not out, and there is no valid speculative run.
-fn may_start_own(running: u8, phase: u8, stale: bool) -> bool
-    ensures { λ r. ⌜ r ≡ mayStartOwn running phase stale ⌝ }
-{
-    if running != 0 {
-        return false;
-    }
-    if stale {
-        return true;
-    }
-    if phase == 1 {
-        return false;
-    }
-    phase != 2
+    0
 }
 
 /// Whether a speculative run of a job that is not ready may be started: no run of it ever was, and no source is missing.
@@ -113,66 +90,42 @@ fn may_speculate(on: bool, running: u8, phase: u8, missing: bool) -> bool
     false
 }
 
-/// The step allowed on a job that is not committed, as one more than its number: 5, 1 or 2; 0 if there is none.
-fn allowed_step(on: bool, running: u8, phase: u8, ready: bool, stale: bool, missing: bool) -> u8
-    ensures { λ r. ⌜ r ≡ allowedStep on running phase ready stale missing ⌝ }
+/// The rank of a job that is not committed: 2 where step 0 is allowed on it, 1 where step 1 is, 0 where none is. It is 4 of a
+/// ready job with a live speculative run: that is to be judged by the values handed to it.
+fn rank(on: bool, running: u8, phase: u8, ready: bool, missing: bool) -> u8
+    ensures { λ r. ⌜ r ≡ rankOf on running phase ready missing ⌝ }
 {
     if ready {
-        if may_commit(phase, stale) {
-            return 5;
+        if phase == 1 {
+            return 4;
         }
-        if may_start_own(running, phase, stale) {
-            return 1;
+        if phase == 2 {
+            return 4;
         }
-        return 0;
+        return own_rank(running);
     }
     if may_speculate(on, running, phase, missing) {
-        return 2;
+        return 1;
     }
     0
 }
 
-impl Seen {
-    /// None of them.
-    fn none() -> Seen
-        ensures { λ r. ⌜ r ≡ noneSeen ⌝ }
-    {
-        Seen {
-            commit: false,
-            own: false,
-            speculation: false,
-        }
+/// The rank of a job that is to be judged, by whether a value handed to its speculative run is stale: 3 where step 4 is allowed
+/// on it, 2 where step 0 is, 0 where none is.
+pub fn judged_rank(running: u8, phase: u8, stale: bool) -> u8
+    ensures { λ r. ⌜ r ≡ judgedRank running phase stale ⌝ }
+{
+    if stale {
+        return own_rank(running);
     }
-
-    /// And the step, given as one more than its number.
-    fn with(self, step: u8) -> Seen
-        ensures { λ r. ⌜ r ≡ seenWith step self ⌝ }
-    {
-        match step {
-            5 => Seen {
-                commit: true,
-                own: self.own,
-                speculation: self.speculation,
-            },
-            1 => Seen {
-                commit: self.commit,
-                own: true,
-                speculation: self.speculation,
-            },
-            2 => Seen {
-                commit: self.commit,
-                own: self.own,
-                speculation: true,
-            },
-            _ => self,
-        }
+    if phase == 2 {
+        return 3;
     }
+    0
 }
 
-/// Fills `allowed` for the first `n` jobs with the step that is allowed on each, as one more than its number, or 0. The words
-/// are those of the jobs' cells; `stale` is 1 where a value handed to the job's live speculative run is not its cell's.
-/// (Both are read for jobs that are not committed alone. That there are 128 places has to be said of an array behind a
-/// reference.)
+/// Fills `ranks` for the first `n` jobs with the rank of each, 0 of a committed one. The words are those of the jobs' cells, and
+/// read for jobs that are not committed alone. (That there are 128 places has to be said of an array behind a reference.)
 pub fn survey<'a>(
     on: bool,
     n: usize,
@@ -183,17 +136,15 @@ pub fn survey<'a>(
     committed: &'a [u8; 128],
     running: &'a [u8; 128],
     phases: &'a [u8; 128],
-    stale: &[u8; 128],
-    allowed: &mut [u8; 128],
-) -> Seen
-    requires { ⌜ (n ≤ 128) × (length (now allowed) ≡ 128) ⌝ }
-    ensures { λ r. ⌜ Surveyed on (columns (now (named .entry)) (now (written .entry)) (now (sure .entry)) (now (back .entry)) (now (committed .entry)) (now (running .entry)) (now (phases .entry)) (now (stale .entry))) n (now (allowed .exit)) r ⌝ }
+    ranks: &mut [u8; 128],
+)
+    requires { ⌜ (n ≤ 128) × (length (now ranks) ≡ 128) ⌝ }
+    ensures { λ _. ⌜ Surveyed on (columns (now (named .entry)) (now (written .entry)) (now (sure .entry)) (now (back .entry)) (now (committed .entry)) (now (running .entry)) (now (phases .entry))) n (now (ranks .exit)) ⌝ }
 {
     let mut earlier = Earlier::none();
-    let mut seen = Seen::none();
     let mut j: usize = 0;
     while j < n {
-        let mut step: u8 = 0;
+        let mut told: u8 = 0;
         if committed[j] == 0 {
             let cells = Cells {
                 named: named[j],
@@ -204,14 +155,11 @@ pub fn survey<'a>(
             let phase = phases[j];
             let ready = earlier.admits(cells);
             let missing = earlier.withholds(cells);
-            step = allowed_step(on, running[j], phase, ready, stale[j] != 0, missing);
-            let met = seen.with(step);
-            seen = met;
+            told = rank(on, running[j], phase, ready, missing);
             let next = earlier.with(cells, phase);
             earlier = next;
         }
-        allowed[j] = step;
+        ranks[j] = told;
         j += 1;
     }
-    seen
 }

@@ -22,5 +22,6 @@ pub mod InvalidRun
 pub mod Chooser
 pub mod ChooserPass
 pub mod ChooserLaws
+pub mod Ranks
 pub mod Turn
 pub mod TurnChange
