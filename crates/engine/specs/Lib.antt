@@ -24,3 +24,4 @@ pub mod ChooserPass
 pub mod ChooserLaws
 pub mod Turn
 pub mod TurnChange
+pub mod TurnForm
