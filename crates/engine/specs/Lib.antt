@@ -25,3 +25,5 @@ pub mod ChooserLaws
 pub mod Turn
 pub mod TurnChange
 pub mod TurnForm
+pub mod TurnCalls
+pub mod TurnLaws
