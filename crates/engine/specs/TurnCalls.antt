@@ -3,10 +3,13 @@ use Prim.Native.Nat.{ℕ, zero, suc}
 use mathlib.Core.Bool.{cond}
 use mathlib.Core.List.{List, [], _∷_, _++_, map}
 use lib.Dec.{eqb}
+use lib.IntN.{ℤ}
 use lib.ListN.{take}
 use Rattle.rules.specs.Call.{Call, startOwn, startSpeculation, reportOwn, reportSpeculation, commit}
 use Rattle.engine.specs.declared.Report.{Report}
+use Rattle.engine.specs.declared.Batch.{Batch}
 use Rattle.engine.specs.declared.Taken.{Taken}
+use Rattle.engine.specs.Perform.{perform}
 use Rattle.engine.specs.Turn.{noReport, blankReport, Turned}
 
 -- The call that a step by its number is.
@@ -32,3 +35,11 @@ stepCalls steps count = map callTaken (take count steps)
 abbrev pub turnCalls : ℕ → ℕ → Report → Turned → List Call
 turnCalls number j report turn =
     cond (eqb (turn .refusal) 0) (reportCalls number j report ++ stepCalls (turn .steps) (turn .count)) []
+
+-- The values that the calls of a list hand out, each performed on what the one before left.
+unfoldable pub handedAlong : Batch → List Call → List (List ℤ)
+handedAlong b [] = []
+handedAlong b (call ∷ calls) = perform b call .handed ∷ handedAlong (perform b call .batch) calls
+
+abbrev pub handedIn : List Taken → ℕ → List (List ℤ)
+handedIn steps count = map (λ (taken : Taken). taken .handed) (take count steps)
