@@ -25,3 +25,6 @@ pub mod ChooserLaws
 pub mod Ranks
 pub mod Turn
 pub mod TurnChange
+pub mod TurnForm
+pub mod TurnCalls
+pub mod TurnLaws

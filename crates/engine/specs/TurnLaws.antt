@@ -1,0 +1,364 @@
+-- Laws of a turn: the changes that the code tells, stored, are the turn (`turn-stored`); a refused one changes nothing
+-- (`turn-unchanged`); and what it counts as and where it ends (R65, R161).
+use Prim.Native.Nat.{ℕ, zero, suc, _+_, _<_, _≤_, min}
+use native.Mathlib.Omega.{arith}
+use native.Mathlib.Numerals.{add-one}
+use mathlib.Core.Bool.{Bool, true, false, cond, not, _&&_}
+use mathlib.Core.List.{List, [], _∷_, _++_, map, map-append}
+use mathlib.Core.Path.{_≡_, refl, sym, ap, _∙_}
+use lib.Dec.{eqb}
+use lib.IntN.{ℤ}
+use lib.ListN.{length, set, take, length-set}
+use lib.Seq.{getD-set-same, getD-set-other, take-suc-set}
+use borrow.Author.Tests.{eqb-true, eqb-false, eq-eqb}
+use Rattle.laws.specs.SearchLaws.{if-or, clash}
+use Rattle.rules.specs.Call.{Call}
+use Rattle.rules.specs.Refusals.{stepTests}
+use Rattle.engine.specs.declared.Report.{Report}
+use Rattle.engine.specs.declared.Run.{Run}
+use Rattle.engine.specs.declared.Batch.{Batch}
+use Rattle.engine.specs.declared.Choice.{Choice}
+use Rattle.engine.specs.declared.Started.{Started}
+use Rattle.engine.specs.declared.Taken.{Taken}
+use Rattle.engine.specs.declared.JobRun.{JobRun}
+use Rattle.engine.specs.declared.change.Change.{Change}
+use Rattle.engine.specs.Form.{inForm}
+use Rattle.engine.specs.Steps.{stepRefusal, withJobChanged}
+use Rattle.engine.specs.Record.{snapshotOf}
+use Rattle.engine.specs.Perform.{perform}
+use Rattle.engine.specs.OpeningLaws.{allowed-tests, next-passed}
+use Rattle.engine.specs.InsertAllLaws.{performed, accepts}
+use Rattle.engine.specs.ByNumber.{stepped, step-0, step-1, step-2, step-3, step-4}
+use Rattle.engine.specs.Chooser.{chosen}
+use Rattle.engine.specs.ChooserLaws.{Means, out-of-form, unsealed, commits, starts, speculates, nothing, chosen-means}
+use Rattle.engine.specs.Change.{changeOn, withChange}
+use Rattle.engine.specs.ChangeLaws.{step-is-change}
+use Rattle.engine.specs.Turn.{noReport, isReport, reported, blankReport, nextStep, nextTaken, noSteps, Turned, endedWith, turnFrom, turned}
+use Rattle.engine.specs.TurnChange.{noJobRun, noJobRuns, nextChange, nextRun, changesAt, changesFrom, firstChanged, firstStored}
+use Rattle.engine.specs.TurnChange.{refusedTurn, turnChange, runsStored, withTurn, turnMade}
+use Rattle.engine.specs.TurnForm.{chosen-accepted, change-accepted, change-keeps-form, Kept}
+use Rattle.engine.specs.TurnCalls.{callBy, reportCalls, callTaken, stepCalls, turnCalls, handedAlong, handedIn}
+
+-- R66: how an accepted turn begins: without a report, on a sealed record in form, or with one that its step accepts.
+pub data Begins (b : Batch) (number j : ℕ) (report : Report) : Type 0 where
+  silent : eqb number noReport ≡ true → inForm b ≡ true → eqb (b .sealed) 0 ≡ false
+      → reported b number j report .batch ≡ b → Begins b number j report
+  told : eqb number noReport ≡ false → isReport number ≡ true → changeOn b number j report .refusal ≡ 0
+      → reported b number j report .batch ≡ withChange b j (changeOn b number j report) → Begins b number j report
+
+-- An accepted step leaves its change.
+step-leaves : (b : Batch) (number j : ℕ) (report : Report) → changeOn b number j report .refusal ≡ 0
+    → stepped b number j (report .values) (report .wrote) .batch ≡ withChange b j (changeOn b number j report)
+step-leaves b number j report e = ap (λ (s : Started). s .batch) (step-is-change b number j report) ∙ rw e
+
+pub turn-begins : (b : Batch) (number j : ℕ) (report : Report) → reported b number j report .refusal ≡ 0 → Begins b number j report
+unfolding reported
+turn-begins b number j report e =
+    if-or (eqb number noReport)
+    (λ none.
+    if-or (inForm b)
+    (λ form.
+    if-or (eqb (b .sealed) 0)
+    (λ t. let ten : _≡_ {A = ℕ} 10 0 = rw (none, form, t) at e in absurd (omega arith))
+    (λ closed. silent none form closed (rw none)))
+    (λ out. let late : _≡_ {A = ℕ} 32 0 = rw (none, out) at e in absurd (omega arith)))
+    (λ some.
+    if-or (isReport number)
+    (λ t.
+    let accepted : changeOn b number j report .refusal ≡ 0 =
+    ap (λ (s : Started). s .refusal) (sym (step-is-change b number j report)) ∙ (rw (some, t) at e) in
+    told some t accepted (rw (some, t) (step-leaves b number j report accepted)))
+    (λ f. absurd (neither (inForm b) (rw (some, f) at e))))
+  where
+    neither : (t : Bool) → _≡_ {A = ℕ} (cond t 21 32) 0 → ⊥
+    neither true e = absurd (omega arith)
+    neither false e = absurd (omega arith)
+
+-- The step that the chooser names leaves its change.
+pub next-leaves : (b : Batch) → chosen b .refusal ≡ 0 → nextStep b .batch ≡ withChange b (chosen b .job) (nextChange b)
+next-leaves b e = step-leaves b (chosen b .step) (chosen b .job) blankReport (chosen-accepted b blankReport e)
+
+-- What is stored so far is what the steps so far left: only runs are stored job by job.
+record StoredSo (before b : Batch) (changed : List JobRun) (stored : ℕ) : Type 0 where
+  kept : Kept before b
+  runs-are : b .runs ≡ runsStored (before .runs) changed stored
+
+-- What is noted later is not among the first n.
+stored-below : (runs : List Run) (changed : List JobRun) (n k : ℕ) (r : JobRun) → n ≤ k
+    → runsStored runs (set changed k r) n ≡ runsStored runs changed n
+unfolding runsStored
+stored-below runs changed zero k r h = refl
+stored-below runs changed (suc n) k r h =
+    rw (getD-set-other changed k n r noJobRun (λ e. absurd (omega arith)), stored-below runs changed n k r (omega arith))
+
+stored-more : (before b : Batch) (changed : List JobRun) (stored j : ℕ) (change : Change) → stored < length changed
+    → StoredSo before b changed stored
+    → StoredSo before (withChange b j change) (set changed stored (record { job = j; run = change .run })) (stored + 1)
+unfolding runsStored withJobChanged
+stored-more before b changed stored j change h so =
+    let r : JobRun = record { job = j; run = change .run } in
+    record {
+      kept = record {
+        cells-stay = so .kept .cells-stay;
+        count-stays = so .kept .count-stays;
+        sealed-stays = so .kept .sealed-stays;
+        switch-stays = so .kept .switch-stays;
+        jobs-stay = so .kept .jobs-stay;
+      };
+      runs-are =
+          rw (add-one, getD-set-same changed stored r noJobRun h, stored-below (before .runs) changed stored stored r (omega arith))
+          (ap (λ (runs : List Run). set runs j (change .run)) (so .runs-are));
+    }
+
+-- Stored, they are the batch.
+stored-batch : (before b : Batch) (steps : List Taken) (changed : List JobRun) (count stored : ℕ) → StoredSo before b changed stored
+    → withTurn before (changesAt b steps changed count stored) ≡ b
+stored-batch before b steps changed count stored so = λ i.
+    record {
+      «cell_count» = sym (so .kept .cells-stay) i;
+      «job_count» = sym (so .kept .count-stays) i;
+      sealed = sym (so .kept .sealed-stays) i;
+      speculating = sym (so .kept .switch-stays) i;
+      cells = b .cells;
+      jobs = sym (so .kept .jobs-stay) i;
+      runs = sym (so .runs-are) i;
+      committed = b .committed;
+      running = b .running;
+      phase = b .phase;
+    }
+
+from-stored : (before b : Batch) (steps : List Taken) (changed : List JobRun) (count stored n : ℕ)
+    → StoredSo before b changed stored → stored + n ≤ length changed
+    → turnMade before (changesFrom b steps changed count stored n) ≡ turnFrom b steps count n
+unfolding changesFrom turnFrom
+from-stored before b steps changed count stored zero so room =
+    ap (λ (c : Batch). endedWith c steps count) (stored-batch before b steps changed count stored so)
+from-stored before b steps changed count stored (suc n) so room =
+    if-or (eqb (chosen b .refusal) 0)
+    (λ t.
+    let more = stored-more before b changed stored (chosen b .job) (nextChange b) (omega arith) so in
+    rw t
+    (from-stored before (nextStep b .batch) (set steps count (nextTaken b)) (set changed stored (nextRun b)) (count + 1) (stored + 1) n
+    (rw (next-leaves b (eqb-true (chosen b .refusal) 0 t)) more)
+    (omega (arith, room, length-set changed stored (nextRun b)))))
+    (λ f. rw f (ap (λ (c : Batch). endedWith c steps count) (stored-batch before b steps changed count stored so)))
+
+unchanged : (b : Batch) → StoredSo b b noJobRuns 0
+unfolding runsStored
+unchanged b =
+    record {
+      kept = record { cells-stay = refl; count-stays = refl; sealed-stays = refl; switch-stays = refl; jobs-stay = refl };
+      runs-are = refl;
+    }
+
+-- The runs noted before the first step.
+first-stored : (b : Batch) (number j : ℕ) (report : Report) → Begins b number j report
+    → StoredSo b (reported b number j report .batch) (firstChanged b number j report) (firstStored number)
+    × (firstStored number + 16 ≤ length (firstChanged b number j report))
+unfolding runsStored
+first-stored b number j report (silent none form closed e) = (rw (none, e) (unchanged b), rw none (omega arith))
+first-stored b number j report (told some is accepted e) =
+    let first : JobRun = record { job = j; run = changeOn b number j report .run } in (
+      rw (some, e) (stored-more b b noJobRuns 0 j (changeOn b number j report) (omega arith) (unchanged b)),
+      rw some (omega (arith, length-set noJobRuns 0 first)),
+    )
+
+-- The changes that the code tells, stored, are the turn.
+pub turn-stored : (b : Batch) (number j : ℕ) (report : Report) (limit : ℕ)
+    → turnMade b (turnChange b number j report limit) ≡ turned b number j report limit
+unfolding turnChange turned
+turn-stored b number j report limit =
+    if-or (eqb (reported b number j report .refusal) 0)
+    (λ t.
+    let first = first-stored b number j report (turn-begins b number j report (eqb-true (reported b number j report .refusal) 0 t)) in
+    rw t
+    (from-stored b (reported b number j report .batch) noSteps (firstChanged b number j report) 0 (firstStored number) (min limit 16)
+    (first .0) (omega (arith, first .1))))
+    (λ f. rw f (refused-made f))
+  where
+    refused-made : {refusal : ℕ} → eqb refusal 0 ≡ false
+        → turnMade b (refusedTurn refusal) ≡ record { refusal = refusal; count = 0; steps = noSteps; batch = b }
+    refused-made f = rw f
+
+-- R81: a refused turn changes nothing.
+
+from-accepted : (b : Batch) (steps : List Taken) (count n : ℕ) → turnFrom b steps count n .refusal ≡ 0
+unfolding turnFrom
+from-accepted b steps count zero = refl
+from-accepted b steps count (suc n) =
+    if-or (eqb (chosen b .refusal) 0)
+    (λ t. rw t (from-accepted (nextStep b .batch) (set steps count (nextTaken b)) (count + 1) n))
+    (λ f. rw f)
+
+pub turn-unchanged : (b : Batch) (number j : ℕ) (report : Report) (limit : ℕ) → (turned b number j report limit .refusal ≡ 0 → ⊥)
+    → turned b number j report limit .batch ≡ b
+unfolding turned
+turn-unchanged b number j report limit refused =
+    if-or (eqb (reported b number j report .refusal) 0)
+    (λ t. absurd (refused (rw t (from-accepted (reported b number j report .batch) noSteps 0 (min limit 16)))))
+    (λ f. rw f)
+
+-- Of an accepted turn, and of a refused one.
+module _ (b : Batch) (number j : ℕ) (report : Report) (limit : ℕ) where
+  turn-taken : eqb (reported b number j report .refusal) 0 ≡ true
+      → turned b number j report limit ≡ turnFrom (reported b number j report .batch) noSteps 0 (min limit 16)
+  unfolding turned
+  turn-taken t = rw t
+
+  turn-refused : eqb (reported b number j report .refusal) 0 ≡ false
+      → turned b number j report limit ≡ record { refusal = reported b number j report .refusal; count = 0; steps = noSteps; batch = b }
+  unfolding turned
+  turn-refused f = rw f
+
+-- R161: a turn is a list of calls.
+
+-- Lists of calls, one after the other.
+performed-append : (b : Batch) (calls rest : List Call) → performed b (calls ++ rest) ≡ performed (performed b calls) rest
+unfolding performed
+performed-append b [] rest = refl
+performed-append b (call ∷ calls) rest = performed-append (perform b call .batch) calls rest
+
+accepts-append : (b : Batch) (calls rest : List Call) → accepts b calls ≡ true → accepts (performed b calls) rest ≡ true
+    → accepts b (calls ++ rest) ≡ true
+unfolding performed accepts
+accepts-append b [] rest e f = f
+accepts-append b (call ∷ calls) rest e f =
+    if-or (eqb (perform b call .refusal) 0)
+    (λ t. rw t (accepts-append (perform b call .batch) calls rest (rw t at e) f))
+    (λ g. clash e (rw g))
+
+handed-append : (b : Batch) (calls rest : List Call)
+    → handedAlong b (calls ++ rest) ≡ handedAlong b calls ++ handedAlong (performed b calls) rest
+unfolding performed handedAlong
+handed-append b [] rest = refl
+handed-append b (call ∷ calls) rest =
+    ap (λ (values : List (List ℤ)). perform b call .handed ∷ values) (handed-append (perform b call .batch) calls rest)
+
+-- A step by its number is the call.
+by-number : (b : Batch) (number j : ℕ) (report : Report) → number < 5
+    → stepped b number j (report .values) (report .wrote) ≡ perform b (callBy number j report)
+by-number b zero j report h = step-0 b j (report .values) (report .wrote)
+by-number b (suc zero) j report h = step-1 b j (report .values) (report .wrote)
+by-number b (suc (suc zero)) j report h = step-2 b j (report .values) (report .wrote)
+by-number b (suc (suc (suc zero))) j report h = step-3 b j (report .values) (report .wrote)
+by-number b (suc (suc (suc (suc zero)))) j report h = step-4 b j (report .values) (report .wrote)
+by-number b (suc (suc (suc (suc (suc n))))) j report h = absurd (omega (arith, h))
+
+-- An accepted change is that of a call that is accepted.
+call-made : (b : Batch) (number j : ℕ) (report : Report) → changeOn b number j report .refusal ≡ 0
+    → (stepped b number j (report .values) (report .wrote) ≡ perform b (callBy number j report))
+    × (perform b (callBy number j report) .refusal ≡ 0)
+call-made b number j report e =
+    let same = by-number b number j report (change-accepted b number j report e .number-in) in
+    (same, ap (λ (s : Started). s .refusal) (sym same ∙ step-is-change b number j report) ∙ e)
+
+-- What was noted of the steps so far: their calls, performed in their order, are accepted, lead to what the steps left, and hand
+-- out the values noted.
+record NotedSo (before b : Batch) (steps : List Taken) (count : ℕ) : Type 0 where
+  leads : b ≡ performed before (stepCalls steps count)
+  accepted : accepts before (stepCalls steps count) ≡ true
+  handed : handedIn steps count ≡ handedAlong before (stepCalls steps count)
+
+noted-more : (before b : Batch) (steps : List Taken) (count : ℕ) → count < length steps → chosen b .refusal ≡ 0
+    → NotedSo before b steps count → NotedSo before (nextStep b .batch) (set steps count (nextTaken b)) (count + 1)
+unfolding performed accepts handedAlong
+noted-more before b steps count h e so =
+    record {
+      leads = rw (calls-more, performed-append before calls (call ∷ []), ← so .leads) (ap (λ (s : Started). s .batch) (made .0));
+      accepted =
+          rw calls-more (accepts-append before calls (call ∷ []) (so .accepted) (rw (← so .leads, made .1)));
+      handed =
+          rw (calls-more, handed-append before calls (call ∷ []), ← so .leads, ← so .handed, ← made .0)
+          (rw add-one
+          (ap (map (λ (t : Taken). t .handed)) (take-suc-set steps count taken h)
+          ∙ map-append (λ (t : Taken). t .handed) (take count steps) (taken ∷ [])));
+    }
+  where
+    taken : Taken
+    taken = nextTaken b
+
+    call : Call
+    call = callTaken taken
+
+    calls : List Call
+    calls = stepCalls steps count
+
+    made : (nextStep b ≡ perform b call) × (perform b call .refusal ≡ 0)
+    made = call-made b (chosen b .step) (chosen b .job) blankReport (chosen-accepted b blankReport e)
+
+    calls-more : stepCalls (set steps count taken) (count + 1) ≡ calls ++ (call ∷ [])
+    calls-more =
+        rw add-one (ap (map callTaken) (take-suc-set steps count taken h) ∙ map-append callTaken (take count steps) (taken ∷ []))
+
+from-noted : (before b : Batch) (steps : List Taken) (count n : ℕ) → count + n ≤ length steps → NotedSo before b steps count
+    → NotedSo before (turnFrom b steps count n .batch) (turnFrom b steps count n .steps) (turnFrom b steps count n .count)
+unfolding turnFrom
+from-noted before b steps count zero room so = so
+from-noted before b steps count (suc n) room so =
+    if-or (eqb (chosen b .refusal) 0)
+    (λ t.
+    rw t
+    (from-noted before (nextStep b .batch) (set steps count (nextTaken b)) (count + 1) n
+    (omega (arith, room, length-set steps count (nextTaken b)))
+    (noted-more before b steps count (omega arith) (eqb-true (chosen b .refusal) 0 t) so)))
+    (λ f. rw f so)
+
+-- The report is a call, or none.
+report-performed : (b : Batch) (number j : ℕ) (report : Report) → Begins b number j report
+    → (reported b number j report .batch ≡ performed b (reportCalls number j report)) × (accepts b (reportCalls number j report) ≡ true)
+unfolding performed accepts
+report-performed b number j report (silent none form closed e) = (rw none e, rw none)
+report-performed b number j report (told some is accepted e) =
+    let made = call-made b number j report accepted in (
+      rw some (e ∙ sym (step-leaves b number j report accepted) ∙ ap (λ (s : Started). s .batch) (made .0)),
+      rw (some, made .1),
+    )
+
+turn-noted : (b : Batch) (number j : ℕ) (report : Report) (limit : ℕ) → eqb (reported b number j report .refusal) 0 ≡ true
+    → NotedSo (reported b number j report .batch) (turned b number j report limit .batch) (turned b number j report limit .steps)
+    (turned b number j report limit .count)
+unfolding performed accepts handedAlong
+turn-noted b number j report limit t =
+    rw (turn-taken b number j report limit t)
+    (from-noted (reported b number j report .batch) (reported b number j report .batch) noSteps 0 (min limit 16) (omega arith)
+    (record { leads = refl; accepted = refl; handed = refl }))
+
+module _ (b : Batch) (number j : ℕ) (report : Report) (limit : ℕ) where
+  abbrev turn : Turned
+  turn = turned b number j report limit
+
+  abbrev Counts : List Call → Type 0
+  Counts calls = (turn .batch ≡ performed b calls) × (accepts b calls ≡ true)
+
+  taken-counts : eqb (reported b number j report .refusal) 0 ≡ true → Counts (turnCalls number j report turn)
+  taken-counts t =
+      let first = report-performed b number j report (turn-begins b number j report (eqb-true (reported b number j report .refusal) 0 t)) in
+      let noted = turn-noted b number j report limit t in
+      let steps = stepCalls (turn .steps) (turn .count) in
+      let accepted : turn .refusal ≡ 0 =
+      rw (turn-taken b number j report limit t) (from-accepted (reported b number j report .batch) noSteps 0 (min limit 16)) in
+      rw accepted (
+        noted .leads ∙ rw (first .0) (sym (performed-append b (reportCalls number j report) steps)),
+        accepts-append b (reportCalls number j report) steps (first .1) (rw (← first .0) (noted .accepted)),
+      )
+
+  refused-counts : eqb (reported b number j report .refusal) 0 ≡ false → Counts (turnCalls number j report turn)
+  unfolding performed accepts
+  refused-counts f = rw (turn-refused b number j report limit f, f) (refl, refl)
+
+  -- The calls that a turn counts as are accepted, one after the other, and lead to the batch that it leaves.
+  pub turn-performed : (turn .batch ≡ performed b (turnCalls number j report turn)) × (accepts b (turnCalls number j report turn) ≡ true)
+  turn-performed = if-or (eqb (reported b number j report .refusal) 0) taken-counts refused-counts
+
+-- R65: each step stands in the list with the values that it handed out.
+pub turn-handed : (b : Batch) (number j : ℕ) (report : Report) (limit : ℕ)
+    → handedIn (turned b number j report limit .steps) (turned b number j report limit .count)
+    ≡ handedAlong (performed b (reportCalls number j report))
+    (stepCalls (turned b number j report limit .steps) (turned b number j report limit .count))
+unfolding handedAlong
+turn-handed b number j report limit =
+    if-or (eqb (reported b number j report .refusal) 0)
+    (λ t.
+    let first = report-performed b number j report (turn-begins b number j report (eqb-true (reported b number j report .refusal) 0 t)) in
+    rw (← first .0) (turn-noted b number j report limit t .handed))
+    (λ f. rw (turn-refused b number j report limit f))
