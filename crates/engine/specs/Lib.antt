@@ -28,3 +28,5 @@ pub mod TurnChange
 pub mod TurnForm
 pub mod TurnCalls
 pub mod TurnLaws
+pub mod TurnPass
+pub mod TurnMoves

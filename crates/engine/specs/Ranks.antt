@@ -14,7 +14,7 @@ use Rattle.laws.specs.SearchLaws.{Found, any-find, any-fails, if-or, clash, or-
 use Rattle.laws.specs.Fold.{column}
 use Rattle.laws.specs.FoldLaws.{column-at}
 use Rattle.passes.specs.Chain.{chainLengthAt}
-use Rattle.rules.specs.Snapshot.{isLive}
+use Rattle.rules.specs.Snapshot.{isStored, isLive}
 use Rattle.rules.specs.Speculation.{handedStale}
 use Rattle.rules.specs.Call.{Call, startOwn, startSpeculation, commit}
 use Rattle.cellset.specs.Survey.{Columns, columns, cellsAt, isOpen, earlierThan, isReadyAfter, missesSource, maySpeculate, judgedRank, finalRank, rankAt, Surveyed}
@@ -38,7 +38,17 @@ judgedAt b j = judgedRank (getD (b .running) j 0) (getD (b .phase) j 0) (runStal
 -- A column with the rank of each job, judged already or still to be.
 pub record Ranked (b : Batch) (ranks : List ℕ) : Type 0 where
   pub long : length ranks ≡ 128
+  pub few : (j : ℕ) → j < b .«job_count» → getD ranks j 0 ≤ 4
   pub at : (j : ℕ) → j < b .«job_count» → finalRank (getD ranks j 0) (judgedAt b j) ≡ allowedRank (snapshotOf b) j
+
+pub judged-few : (running phase : ℕ) (stale : Bool) → judgedRank running phase stale ≤ 3
+judged-few running phase stale = cases stale (eqb running 0) (isStored phase)
+  where
+    cases : (stale idle stored : Bool) → cond stale (cond idle 2 0) (cond stored 3 0) ≤ 3
+    cases true true stored = omega arith
+    cases true false stored = omega arith
+    cases false idle true = omega arith
+    cases false idle false = omega arith
 
 module _ (b : Batch) where
   -- What is to be judged is live, and so the job's run is its guess's.
@@ -77,17 +87,36 @@ module _ (b : Batch) where
       let tells = columned-tells b form named written sure back arities all in
       record {
         long = surveyed .long;
+        few = λ j h.
+            rw (surveyed .told j h)
+            (ranks-few (isOpen of j) (isReadyAfter (earlierThan of j) (cellsAt of j)) (isLive (getD (b .phase) j 0)) (eqb (getD (b .running) j 0) 0)
+            (maySpeculate (snapshotOf b .speculating) (getD (b .running) j 0) (getD (b .phase) j 0) (missesSource (earlierThan of j) (cellsAt of j))));
         at = λ j h.
             ap (λ (rank : ℕ). finalRank rank (judgedAt b j)) (surveyed .told j h)
             ∙ judged-run named written sure back (b .committed) (b .running) (snapshotOf b .speculating) j (getD (b .running) j 0)
             ∙ told-rank (snapshotOf b) of tells (ap not closed) j h;
       }
+    where
+      ranks-few : (unsettled ready live idle guesses : Bool)
+          → cond unsettled (cond ready (cond live 4 (cond idle 2 0)) (cond guesses 1 0)) 0 ≤ 4
+      ranks-few true true true idle guesses = omega arith
+      ranks-few true true false true guesses = omega arith
+      ranks-few true true false false guesses = omega arith
+      ranks-few true false live idle true = omega arith
+      ranks-few true false live idle false = omega arith
+      ranks-few false ready live idle guesses = omega arith
 
   -- A job judged.
   pub judge-ranked : (ranks : List ℕ) (j : ℕ) → j < 128 → getD ranks j 0 ≡ 4 → {rank : ℕ} → rank ≡ judgedAt b j → Ranked b ranks
       → Ranked b (set ranks j rank)
   judge-ranked ranks j h four {rank} e ranked = record {
     long = length-set ranks j rank ∙ ranked .long;
+    few = λ i l.
+        if-or (eqb i j)
+        (λ t.
+        rw (eqb-true i j t, getD-set-same ranks j rank 0 (omega (arith, ranked .long)), e)
+        (omega (arith, judged-few (getD (b .running) j 0) (getD (b .phase) j 0) (runStale b j))))
+        (λ f. rw (getD-set-other ranks j i rank 0 (eqb-false i j f)) (ranked .few i l));
     at = λ i l.
         if-or (eqb i j)
         (λ t.
@@ -124,6 +153,15 @@ top-met n l some =
       below = found .below;
       holds = eq-eqb (getD l (found .place) 0) (topBelow n l) (omega (arith, reached, top-reaches n l (found .place) (found .below)));
     }
+
+pub top-limit : (n k : ℕ) (l : List ℕ) → ((j : ℕ) → j < n → getD l j 0 ≤ k) → topBelow n l ≤ k
+top-limit n k l few =
+    if-or (ltb k (topBelow n l))
+    (λ t.
+    let above = ltb-true k (topBelow n l) t in
+    let found = top-met n l (omega (arith, above)) in
+    absurd (omega (arith, above, few (found .place) (found .below), eqb-true (getD l (found .place) 0) (topBelow n l) (found .holds))))
+    (λ f. ltb-false k (topBelow n l) f)
 
 -- The jobs of a rank are those on which a call is allowed.
 abbrev Names : Batch → (ℕ → ℕ) → ℕ → (ℕ → Call) → Type 0

@@ -201,7 +201,7 @@ fn speculation_start(
 }
 
 /// What a step other than 1 comes to. Reports ask nothing of the other jobs.
-fn plain_change(
+pub(crate) fn plain_change(
     number: u8,
     job: Job,
     run: Run,
@@ -267,7 +267,7 @@ impl Batch {
     }
 
     /// What step 1 comes to on job `j`, which stands so and is ready or not.
-    fn speculation_change(self, j: usize, now: Standing, ready: bool) -> Change
+    pub(crate) fn speculation_change(self, j: usize, now: Standing, ready: bool) -> Change
         requires { ⌜ (j < 128) × AllPlain (self .jobs) j ⌝ }
         ensures { λ r. ⌜ r ≡ speculationStart (not (eqb (self .speculating) 0)) now (self .cells) ready (sourceMissing (snapshotOf self) j) (guessAt self j) ⌝ }
     {

@@ -1,22 +1,22 @@
 //! The chooser: which step to take next, and on which job.
 
 ghost use mathlib.Core.Path.{_≡_};
-ghost use mathlib.Core.Bool.{false};
-ghost use Prim.Native.Nat.{_≤_};
+ghost use mathlib.Core.Bool.{cond};
+ghost use Prim.Native.Nat.{_≤_, min};
 ghost use lib.Dec.{eqb};
 ghost use lib.ListN.{getD};
-ghost use Rattle.laws.specs.Search.{anyBelow};
 ghost use Rattle.engine.specs.Chooser.{better, noPick, pickBelow, refused, named, chosen};
-ghost use Rattle.engine.specs.ChooserPass.{soughtOf};
+ghost use Rattle.engine.specs.Ranks.{stepOf, lowestBelow, highestBelow};
 use crate::Batch;
 use crate::Choice;
-use crate::speculation::is_live;
+use crate::form::larger;
+use crate::form::top_of;
 use cellset::Cells;
-use cellset::survey::Seen;
+use cellset::survey::judged_rank;
 
 /// A job, the length of its chain and how many accesses it has; length 0 where no job is picked.
-struct Pick {
-    job: u8,
+pub(crate) struct Pick {
+    pub job: u8,
     chain: u8,
     arity: u8,
 }
@@ -74,53 +74,85 @@ fn better(pick: Pick, allowed: bool, job: u8, chain: u8, arity: u8) -> Pick
     pick
 }
 
-/// The step to look for, as one more than its number: 4, else 0, else 1; 0 where none was seen.
-fn sought(seen: Seen) -> u8
-    ensures { λ r. ⌜ r ≡ soughtOf seen ⌝ }
+/// The number of the step with the rank: 4, 0 or 1.
+pub(crate) fn step_of(rank: u8) -> u8
+    ensures { λ r. ⌜ r ≡ stepOf rank ⌝ }
 {
-    if seen.commit {
-        return 5;
+    match rank {
+        3 => 4,
+        2 => 0,
+        _ => 1,
     }
-    if seen.own {
-        return 1;
-    }
-    if seen.speculation {
-        return 2;
-    }
-    0
 }
 
-/// The first of the first `n` jobs on which the step is allowed, given as one more than its number: chains before it are not
-/// asked for. `n` where there is none.
-fn first_for(step: u8, n: usize, allowed: &[u8; 128]) -> usize
-    requires { ⌜ n ≤ 128 ⌝ }
-    ensures { λ r. ⌜ anyBelow r (λ j. eqb (getD (now (allowed .entry)) j 0) step) ≡ false ⌝ }
+/// The place where the test holds, else the other number.
+fn place_if(test: bool, place: u8, other: u8) -> u8
+    ensures { λ r. ⌜ r ≡ cond test place other ⌝ }
 {
+    if test {
+        return place;
+    }
+    other
+}
+
+/// The smaller of two numbers.
+fn smaller(a: u8, b: u8) -> u8
+    ensures { λ r. ⌜ r ≡ min a b ⌝ }
+{
+    if b < a {
+        return b;
+    }
+    a
+}
+
+/// The lowest of the first `n` jobs that has the rank; 255 where there is none. (As in `top_of`, the loop has no exit but its
+/// end.)
+pub(crate) fn lowest_of(rank: u8, n: usize, ranks: &[u8; 128]) -> u8
+    requires { ⌜ n ≤ 128 ⌝ }
+    ensures { λ r. ⌜ r ≡ lowestBelow n rank (now (ranks .entry)) ⌝ }
+{
+    let mut lowest: u8 = 255;
     let mut j: usize = 0;
     while j < n {
-        if allowed[j] == step {
-            return j;
-        }
+        let here = place_if(ranks[j] == rank, j as u8, 255);
+        let next = smaller(here, lowest);
+        lowest = next;
         j += 1;
     }
-    n
+    lowest
 }
 
-/// The pick among the first `n` jobs on which the step is allowed, given as one more than its number.
-fn pick_for(
-    step: u8,
+/// The highest of them; 0 where there is none.
+pub(crate) fn highest_of(rank: u8, n: usize, ranks: &[u8; 128]) -> u8
+    requires { ⌜ n ≤ 128 ⌝ }
+    ensures { λ r. ⌜ r ≡ highestBelow n rank (now (ranks .entry)) ⌝ }
+{
+    let mut highest: u8 = 0;
+    let mut j: usize = 0;
+    while j < n {
+        let here = place_if(ranks[j] == rank, j as u8, 0);
+        let next = larger(here, highest);
+        highest = next;
+        j += 1;
+    }
+    highest
+}
+
+/// The pick among the first `n` jobs with the rank.
+pub(crate) fn pick_for(
+    rank: u8,
     n: usize,
-    allowed: &[u8; 128],
+    ranks: &[u8; 128],
     chains: &[u8; 128],
     arities: &[u8; 128],
 ) -> Pick
     requires { ⌜ n ≤ 128 ⌝ }
-    ensures { λ r. ⌜ r ≡ pickBelow n (λ j. eqb (getD (now (allowed .entry)) j 0) step) (λ j. getD (now (chains .entry)) j 0) (λ j. getD (now (arities .entry)) j 0) ⌝ }
+    ensures { λ r. ⌜ r ≡ pickBelow n (λ j. eqb (getD (now (ranks .entry)) j 0) rank) (λ j. getD (now (chains .entry)) j 0) (λ j. getD (now (arities .entry)) j 0) ⌝ }
 {
     let mut pick = no_pick();
     let mut j: usize = 0;
     while j < n {
-        let is_allowed = allowed[j] == step;
+        let is_allowed = ranks[j] == rank;
         let chain = chains[j];
         let arity = arities[j];
         let next = better(pick, is_allowed, j as u8, chain, arity);
@@ -147,7 +179,6 @@ impl Batch {
             let mut sure = [0u64; 128];
             let mut back = [0u64; 128];
             let mut arities = [0u8; 128];
-            let mut stale = [0u8; 128];
             let mut j: usize = 0;
             while j < n {
                 if self.committed[j] != 0 {
@@ -161,18 +192,11 @@ impl Batch {
                 sure[j] = cells.sure;
                 back[j] = cells.back;
                 arities[j] = job.arity;
-                let mut differs = false;
-                if is_live(self.phase[j]) {
-                    let run = self.runs[j];
-                    let handed = run.handed;
-                    differs = runs::stale::is_stale(job, handed, &self.cells);
-                }
-                stale[j] = differs as u8;
                 j += 1;
             }
             let on = self.speculating != 0;
-            let mut allowed = [0u8; 128];
-            let seen = cellset::survey::survey(
+            let mut ranks = [0u8; 128];
+            cellset::survey::survey(
                 on,
                 n,
                 &names,
@@ -182,18 +206,32 @@ impl Batch {
                 &self.committed,
                 &self.running,
                 &self.phase,
-                &stale,
-                &mut allowed,
+                &mut ranks,
             );
-            let step = sought(seen);
-            if step == 0 {
+            let mut k: usize = 0;
+            while k < n {
+                if ranks[k] != 4 {
+                    k += 1;
+                    continue;
+                }
+                let job = self.jobs[k];
+                let run = self.runs[k];
+                let handed = run.handed;
+                let stale = runs::stale::is_stale(job, handed, &self.cells);
+                let rank = judged_rank(self.running[k], self.phase[k], stale);
+                ranks[k] = rank;
+                k += 1;
+            }
+            let top = top_of(&ranks, n);
+            if top == 0 {
                 return refused(19);
             }
-            let first = first_for(step, n, &allowed);
+            let first = lowest_of(top, n, &ranks);
             let jobs = self.jobs;
-            let chains = passes::chain_lengths_from(jobs, n, first);
-            let pick = pick_for(step, n, &allowed, &chains, &arities);
-            return named(step - 1, pick);
+            let chains = passes::chain_lengths_from(jobs, n, first as usize);
+            let pick = pick_for(top, n, &ranks, &chains, &arities);
+            let step = step_of(top);
+            return named(step, pick);
         }
         refused(32)
     }

@@ -27,7 +27,7 @@ pub(crate) fn counts_out(cells: u8, jobs: u8, sealed: u8, speculating: u8) -> bo
 }
 
 /// The larger of two numbers.
-fn larger(a: u8, b: u8) -> u8
+pub(crate) fn larger(a: u8, b: u8) -> u8
     ensures { λ r. ⌜ r ≡ max a b ⌝ }
 {
     if a < b {

@@ -12,6 +12,7 @@ mod insert_all;
 mod opening;
 pub mod speculation;
 mod steps;
+mod turn;
 
 /// A run of a job: the values handed out and the report on it. Of a speculative run also where its values came from:
 /// for each place one more than the number of the job it was forwarded from, 0 for the cell itself, and the jobs bypassed.

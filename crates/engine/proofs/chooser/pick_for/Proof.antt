@@ -12,13 +12,13 @@ use Rattle.engine.proofs.chooser.pick_for.Tie as tie
 
 -- the best of the jobs before j
 abbrev Inv-loop : tie.InvT-loop
-Inv-loop step n allowed chains arities pick₀ j₀ pick j =
+Inv-loop rank n ranks chains arities pick₀ j₀ pick j =
     (j ≤ n)
     × (n ≤ 128)
-    × (pick ≡ pickBelow j (λ i. eqb (getD allowed i 0) step) (λ i. getD chains i 0) (λ i. getD arities i 0))
+    × (pick ≡ pickBelow j (λ i. eqb (getD ranks i 0) rank) (λ i. getD chains i 0) (λ i. getD arities i 0))
 
 abbrev μ-loop : tie.MeasureT-loop
-μ-loop step n allowed chains arities pick₀ j₀ pick j = n - j
+μ-loop rank n ranks chains arities pick₀ j₀ pick j = n - j
 
 no-pick-requires : tie.Need-no-pick-requires Inv-loop μ-loop
 no-pick-requires c κs = search needs

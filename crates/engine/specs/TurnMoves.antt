@@ -1,0 +1,169 @@
+-- The moves of a turn's loop: a guess is judged, a step is taken, or the turn ends. What holds before each holds after it.
+use Prim.Native.Nat.{ℕ, zero, suc, _+_, _-_, _<_, _≤_}
+use native.Mathlib.Omega.{arith}
+use native.Mathlib.Numerals.{add-one}
+use mathlib.Core.Bool.{Bool, true, false, cond, not, _&&_, _||_}
+use mathlib.Core.List.{List}
+use mathlib.Core.Path.{_≡_, refl, sym, ap, _∙_, subst}
+use lib.Dec.{eqb, ltb}
+use lib.ListN.{getD, set, drop, length-set}
+use borrow.Author.Tests.{eqb-true, eqb-false, eq-eqb, ne-eqb, ltb-true, ltb-false}
+use Rattle.laws.specs.Fold.{column}
+use Rattle.laws.specs.SearchLaws.{if-or, or-left, or-right}
+use Rattle.dependence.specs.Job.{jobAt}
+use Rattle.passes.specs.Chain.{chainLengthAt}
+use Rattle.rules.specs.Snapshot.{isStored}
+use Rattle.rules.specs.Speculation.{sourceMissing}
+use Rattle.cellset.specs.Survey.{columns, Surveyed}
+use Rattle.engine.specs.declared.Batch.{Batch}
+use Rattle.engine.specs.declared.Choice.{Choice}
+use Rattle.engine.specs.declared.Started.{Started}
+use Rattle.engine.specs.declared.Taken.{Taken}
+use Rattle.engine.specs.declared.JobRun.{JobRun}
+use Rattle.engine.specs.declared.TurnChange.{TurnChange}
+use Rattle.engine.specs.declared.chooser.Pick.{Pick}
+use Rattle.engine.specs.declared.change.Change.{Change}
+use Rattle.engine.specs.Record.{runAt, snapshotOf}
+use Rattle.engine.specs.Form.{inForm}
+use Rattle.engine.specs.FormLaws.{form-counts}
+use Rattle.engine.specs.FormPass.{topBelow}
+use Rattle.engine.specs.Steps.{withJobChanged}
+use Rattle.engine.specs.Change.{speculationStart, standingAt, guessAt, plainChange, changeFor, changeOn, withChange}
+use Rattle.engine.specs.ChangeLaws.{step-is-change, change-made}
+use Rattle.engine.specs.InsertAllPass.{Sized}
+use Rattle.engine.specs.Chooser.{pickBelow, named, chosen}
+use Rattle.engine.specs.ChooserPass.{Columned, openAt, columned-later}
+use Rattle.engine.specs.Ranks.{judgedAt, Ranked, survey-ranked, judge-ranked, stepOf, top-reaches, top-met, rank-is, choice-none, choice-top, lowestBelow, highestBelow, lowest-le, lowest-met, pick-is, best, best-in, lowest-in, sole-is}
+use Rattle.engine.specs.Turn.{blankReport, nextStep, nextTaken}
+use Rattle.engine.specs.TurnChange.{nextChange, nextRun, changesAt, changesFrom}
+use Rattle.engine.specs.TurnForm.{chosen-accepted, change-accepted, change-keeps-form}
+use Rattle.engine.specs.TurnPass.{own-made, commit-made, guess-made, Named, own, guess, settle, named-open, opened-before, own-ranked, guess-ranked}
+
+-- How a turn stands that is to come to `goal`: the batch as the steps so far left it, with its columns of words, its ranks, the
+-- chains that are known, and what was noted.
+pub record Underway (goal : TurnChange) (most n : ℕ) (on : Bool) (names written sure back arities : List ℕ) (b : Batch) (ranks : List ℕ)
+    (taken : List Taken) (changed : List JobRun) (count stored : ℕ) (chains : List ℕ) (known : ℕ) : Type 0 where
+  pub held : n ≡ b .«job_count»
+  pub form : inForm b ≡ true
+  pub closed : eqb (b .sealed) 0 ≡ false
+  pub switch : on ≡ not (eqb (b .speculating) 0)
+  pub sized : Sized b
+  pub columned : Columned b n names written sure back arities
+  pub ranked : Ranked b ranks
+  pub chained : drop known chains ≡ drop known (column 128 n (chainLengthAt (b .jobs) n) 0)
+  pub left : goal ≡ changesFrom b taken changed count stored (most - count)
+
+-- The end: no step is left to be taken, or none is named.
+
+pub all-taken : (b : Batch) (taken : List Taken) (changed : List JobRun) (count stored most : ℕ) → most ≤ count
+    → changesFrom b taken changed count stored (most - count) ≡ changesAt b taken changed count stored
+unfolding changesFrom
+all-taken b taken changed count stored most h = let e : most - count ≡ 0 = omega arith in rw e
+
+none-named : (b : Batch) (taken : List Taken) (changed : List JobRun) (count stored n : ℕ) → chosen b .refusal ≡ 19
+    → changesFrom b taken changed count stored n ≡ changesAt b taken changed count stored
+unfolding changesFrom
+none-named b taken changed count stored zero e = refl
+none-named b taken changed count stored (suc n) e = rw e
+
+-- One step more.
+one-more : (b : Batch) (taken : List Taken) (changed : List JobRun) (count stored most : ℕ) → count < most → chosen b .refusal ≡ 0
+    → changesFrom b taken changed count stored (most - count)
+    ≡ changesFrom (nextStep b .batch) (set taken count (nextTaken b)) (set changed stored (nextRun b)) (count + 1) (stored + 1)
+    (most - (count + 1))
+unfolding changesFrom
+one-more b taken changed count stored most h e =
+    let more : most - count ≡ suc (most - (count + 1)) = omega arith in
+    rw (more, e)
+
+module _ {goal : TurnChange} {most n : ℕ} {on : Bool} {names written sure back arities : List ℕ} {b : Batch} {ranks : List ℕ}
+    {taken : List Taken} {changed : List JobRun} {count stored : ℕ} {chains : List ℕ} {known : ℕ}
+    (g : Underway goal most n on names written sure back arities b ranks taken changed count stored chains known)
+    (top : ℕ) (is-top : top ≡ topBelow n ranks) where
+  is-largest : top ≡ topBelow (b .«job_count») ranks
+  is-largest = is-top ∙ ap (λ (m : ℕ). topBelow m ranks) (g .held)
+
+  all : Columned b (b .«job_count») names written sure back arities
+  all = subst (λ (m : ℕ). Columned b m names written sure back arities) (g .held) (g .columned)
+
+  pub stopped : top ≡ 0 → goal ≡ changesAt b taken changed count stored
+  stopped e =
+      g .left
+      ∙ none-named b taken changed count stored (most - count)
+      (sym (ap (λ (choice : Choice). choice .refusal) (choice-none b (g .form) (g .closed) ranks (g .ranked) top is-largest (omega arith) e)))
+
+  -- The lowest job of the largest rank is held, and has that rank.
+  pub lowest-held : 0 < top → (lowestBelow n top ranks < n) × (getD ranks (lowestBelow n top ranks) 0 ≡ top)
+  lowest-held some =
+      let found = top-met n ranks (omega (arith, is-top)) in
+      let place = ap (λ (k : ℕ). eqb (getD ranks (found .place) 0) k) is-top ∙ found .holds in
+      let few : n ≤ 128 = omega (arith, g .held, form-counts b (g .form) .few-jobs) in (
+        omega (arith, found .below, lowest-le top ranks n (found .place) (found .below) place),
+        eqb-true (getD ranks (lowestBelow n top ranks) 0) top (lowest-met top ranks n (found .place) (found .below) few place),
+      )
+
+  -- A guess is judged.
+  pub judged : top ≡ 4 → {rank : ℕ} → rank ≡ judgedAt b (lowestBelow n top ranks)
+      → Underway goal most n on names written sure back arities b (set ranks (lowestBelow n top ranks) rank) taken changed count stored chains known
+  judged e f =
+      let at = lowest-held (omega arith) in
+      let few : n ≤ 128 = omega (arith, g .held, form-counts b (g .form) .few-jobs) in
+      record {
+        held = g .held;
+        form = g .form;
+        closed = g .closed;
+        switch = g .switch;
+        sized = g .sized;
+        columned = g .columned;
+        ranked = judge-ranked b ranks (lowestBelow n top ranks) (omega (arith, at .0, few)) (at .1 ∙ e) f (g .ranked);
+        chained = g .chained;
+        left = g .left;
+      }
+
+  -- A step is taken, on the job picked.
+  module _ (low : top ≤ 3) (some : 0 < top) where
+    abbrev pick : Pick
+    pick = best b (g .form) (g .closed) names written sure back arities all ranks (g .ranked) top is-largest low some
+
+    named-is : named (stepOf top) pick ≡ chosen b
+    named-is = choice-top b (g .form) (g .closed) ranks (g .ranked) top is-largest low some
+
+    pub accepted : chosen b .refusal ≡ 0
+    accepted = sym (ap (λ (choice : Choice). choice .refusal) named-is)
+
+    -- It is the lowest of them where that is the highest too, and else the one that the chains tell.
+    module _ (lengths : List ℕ) (from : ℕ) (enough : lowestBelow n top ranks < highestBelow n top ranks → from ≤ lowestBelow n top ranks)
+        (right : drop from lengths ≡ drop from (column 128 n (chainLengthAt (b .jobs) n) 0)) {p : ℕ}
+        (picked : p
+        ≡ cond (ltb (lowestBelow n top ranks) (highestBelow n top ranks))
+        (pickBelow n (λ j. eqb (getD ranks j 0) top) (λ j. getD lengths j 0) (λ j. getD arities j 0) .job) (lowestBelow n top ranks)) where
+      pub picked-is : p ≡ chosen b .job
+      picked-is =
+          picked
+          ∙ if-or (ltb (lowestBelow n top ranks) (highestBelow n top ranks))
+          (λ t.
+          rw t
+          (ap (λ (x : Pick). x .job)
+          (subst
+          (λ (m : ℕ). from ≤ lowestBelow m top ranks → drop from lengths ≡ drop from (column 128 m (chainLengthAt (b .jobs) m) 0)
+          → pickBelow m (λ j. eqb (getD ranks j 0) top) (λ j. getD lengths j 0) (λ j. getD arities j 0) ≡ pick) (sym (g .held))
+          (λ early e. pick-is b (g .form) (g .closed) names written sure back arities all ranks (g .ranked) top is-largest low some from early lengths e)
+          (enough (ltb-true (lowestBelow n top ranks) (highestBelow n top ranks) t)) right)))
+          (λ f.
+          rw f
+          (subst (λ (m : ℕ). highestBelow m top ranks ≤ lowestBelow m top ranks → lowestBelow m top ranks ≡ pick .job) (sym (g .held))
+          (λ one. sole-is b (g .form) (g .closed) names written sure back arities all ranks (g .ranked) top is-largest low some one)
+          (ltb-false (lowestBelow n top ranks) (highestBelow n top ranks) f)))
+          ∙ ap (λ (choice : Choice). choice .job) named-is
+
+      pub picked-in : p < n
+      picked-in =
+          omega (
+            arith,
+            picked-is ∙ sym (ap (λ (choice : Choice). choice .job) named-is),
+            g .held,
+            best-in b (g .form) (g .closed) names written sure back arities all ranks (g .ranked) top is-largest low some .0,
+          )
+
+    pub number-is : stepOf top ≡ chosen b .step
+    number-is = ap (λ (choice : Choice). choice .step) named-is
