@@ -3,14 +3,14 @@
 use Prim.Native.Nat.{ℕ, zero, suc, _+_, _<_, _≤_, min}
 use native.Mathlib.Omega.{arith}
 use native.Mathlib.Numerals.{add-one}
-use mathlib.Core.Bool.{Bool, true, false, cond, not, _&&_}
+use mathlib.Core.Bool.{Bool, true, false, cond, not}
 use mathlib.Core.List.{List, [], _∷_, _++_, map, map-append}
 use mathlib.Core.Path.{_≡_, refl, sym, ap, _∙_}
 use lib.Dec.{eqb}
 use lib.IntN.{ℤ}
-use lib.ListN.{length, set, take, length-set}
+use lib.ListN.{length, getD, set, take, replicate, length-set}
 use lib.Seq.{getD-set-same, getD-set-other, take-suc-set}
-use borrow.Author.Tests.{eqb-true, eqb-false, eq-eqb}
+use borrow.Author.Tests.{eqb-true, eq-eqb}
 use Rattle.laws.specs.SearchLaws.{if-or, clash}
 use Rattle.rules.specs.Call.{Call}
 use Rattle.rules.specs.Refusals.{stepTests}
@@ -23,7 +23,7 @@ use Rattle.engine.specs.declared.Taken.{Taken}
 use Rattle.engine.specs.declared.JobRun.{JobRun}
 use Rattle.engine.specs.declared.change.Change.{Change}
 use Rattle.engine.specs.Form.{inForm}
-use Rattle.engine.specs.Steps.{stepRefusal, withJobChanged}
+use Rattle.engine.specs.Steps.{withJobChanged}
 use Rattle.engine.specs.Record.{snapshotOf}
 use Rattle.engine.specs.Perform.{perform}
 use Rattle.engine.specs.OpeningLaws.{allowed-tests, next-passed}
@@ -33,7 +33,7 @@ use Rattle.engine.specs.Chooser.{chosen}
 use Rattle.engine.specs.ChooserLaws.{Means, out-of-form, unsealed, commits, starts, speculates, nothing, chosen-means}
 use Rattle.engine.specs.Change.{changeOn, withChange}
 use Rattle.engine.specs.ChangeLaws.{step-is-change}
-use Rattle.engine.specs.Turn.{noReport, isReport, reported, blankReport, nextStep, nextTaken, noSteps, Turned, endedWith, turnFrom, turned}
+use Rattle.engine.specs.Turn.{noReport, isReport, reported, blankReport, nextStep, nextTaken, noStep, noSteps, Turned, endedWith, turnFrom, turned}
 use Rattle.engine.specs.TurnChange.{noJobRun, noJobRuns, nextChange, nextRun, changesAt, changesFrom, firstChanged, firstStored}
 use Rattle.engine.specs.TurnChange.{refusedTurn, turnChange, runsStored, withTurn, turnMade}
 use Rattle.engine.specs.TurnForm.{chosen-accepted, change-accepted, change-keeps-form, Kept}
@@ -362,3 +362,101 @@ turn-handed b number j report limit =
     let first = report-performed b number j report (turn-begins b number j report (eqb-true (reported b number j report .refusal) 0 t)) in
     rw (← first .0) (turn-noted b number j report limit t .handed))
     (λ f. rw (turn-refused b number j report limit f))
+
+-- R65: where a turn ends.
+
+-- A sealed batch in form: steps may be taken.
+pub record Going (b : Batch) : Type 0 where
+  pub form : inForm b ≡ true
+  pub closed : eqb (b .sealed) 0 ≡ false
+
+-- An accepted step leaves such a batch.
+step-goes-on : (b : Batch) (number j : ℕ) (report : Report) → changeOn b number j report .refusal ≡ 0
+    → Going (withChange b j (changeOn b number j report))
+unfolding withJobChanged
+step-goes-on b number j report e =
+    let passed = allowed-tests b (stepTests (snapshotOf b) j []) (change-accepted b number j report e .step-in) in
+    record {
+      form = change-keeps-form b number j report e;
+      closed = open-not (eqb (b .sealed) 0) (next-passed (not (not (eqb (b .sealed) 0))) 10 _ (omega arith) passed .0);
+    }
+  where
+    open-not : (t : Bool) → not (not t) ≡ false → t ≡ false
+    open-not true e = e
+    open-not false e = e
+
+-- On such a batch the chooser names a step, or answers 19.
+going-stuck : (b : Batch) → Going b → eqb (chosen b .refusal) 0 ≡ false → chosen b .refusal ≡ 19
+going-stuck b going = cases (chosen b) (chosen-means b)
+  where
+    cases : (choice : Choice) → Means b choice → eqb (choice .refusal) 0 ≡ false → choice .refusal ≡ 19
+    cases choice (out-of-form f) e = clash (going .form) f
+    cases choice (unsealed f s) e = let shut : snapshotOf b .sealed ≡ true = rw (going .closed) in clash shut s
+    cases choice (commits f s pick best) e = clash refl e
+    cases choice (starts f s n pick best) e = clash refl e
+    cases choice (speculates f s n m pick best) e = clash refl e
+    cases choice (nothing f s n m o) e = refl
+
+-- A turn takes no more steps than its limit, and fewer only where the chooser names none.
+record Ends (limit : ℕ) (turn : Turned) : Type 0 where
+  within : turn .count ≤ limit
+  going : Going (turn .batch)
+  short : turn .count < limit → eqb (chosen (turn .batch) .refusal) 0 ≡ false
+
+from-ends : (b : Batch) (steps : List Taken) (count n limit : ℕ) → limit ≡ count + n → Going b → Ends limit (turnFrom b steps count n)
+unfolding turnFrom
+from-ends b steps count zero limit e going =
+    record { within = omega arith; going = going; short = λ h. absurd (omega arith) }
+from-ends b steps count (suc n) limit e going =
+    if-or (eqb (chosen b .refusal) 0)
+    (λ t.
+    let named = eqb-true (chosen b .refusal) 0 t in
+    rw t
+    (from-ends (nextStep b .batch) (set steps count (nextTaken b)) (count + 1) n limit (omega arith)
+    (rw (next-leaves b named) (step-goes-on b (chosen b .step) (chosen b .job) blankReport (chosen-accepted b blankReport named)))))
+    (λ f. rw f (record { within = omega arith; going = going; short = λ h. f }))
+
+report-goes-on : (b : Batch) (number j : ℕ) (report : Report) → Begins b number j report → Going (reported b number j report .batch)
+report-goes-on b number j report (silent none form closed e) = rw e (record { form = form; closed = closed })
+report-goes-on b number j report (told some is accepted e) = rw e (step-goes-on b number j report accepted)
+
+pub turn-ended : (b : Batch) (number j : ℕ) (report : Report) (limit : ℕ) → turned b number j report limit .refusal ≡ 0
+    → (turned b number j report limit .count ≤ min limit 16)
+    × (turned b number j report limit .count < min limit 16 → chosen (turned b number j report limit .batch) .refusal ≡ 19)
+turn-ended b number j report limit accepted =
+    if-or (eqb (reported b number j report .refusal) 0)
+    (λ t.
+    let begins = turn-begins b number j report (eqb-true (reported b number j report .refusal) 0 t) in
+    let ends : Ends (min limit 16) (turned b number j report limit) =
+    rw (turn-taken b number j report limit t)
+    (from-ends (reported b number j report .batch) noSteps 0 (min limit 16) (min limit 16) (omega arith) (report-goes-on b number j report begins)) in
+    (ends .within, λ h. going-stuck (turned b number j report limit .batch) (ends .going) (ends .short h)))
+    (λ f. clash (eq-eqb (reported b number j report .refusal) 0 (rw (turn-refused b number j report limit f) at accepted)) f)
+
+-- In the places after the steps taken stand zeros.
+from-blank : (b : Batch) (steps : List Taken) (count n : ℕ) → ((i : ℕ) → count ≤ i → getD steps i noStep ≡ noStep)
+    → (i : ℕ) → turnFrom b steps count n .count ≤ i → getD (turnFrom b steps count n .steps) i noStep ≡ noStep
+unfolding turnFrom
+from-blank b steps count zero blank i h = blank i h
+from-blank b steps count (suc n) blank i h =
+    if-or (eqb (chosen b .refusal) 0)
+    (λ t.
+    rw t
+    (from-blank (nextStep b .batch) (set steps count (nextTaken b)) (count + 1) n
+    (λ k l. getD-set-other steps count k (nextTaken b) noStep (λ e. absurd (omega arith)) ∙ blank k (omega arith)) i (rw t at h)))
+    (λ f. rw f (blank i (rw f at h)))
+
+blank-at : (n i : ℕ) → getD (replicate n noStep) i noStep ≡ noStep
+blank-at zero i = refl
+blank-at (suc n) zero = refl
+blank-at (suc n) (suc i) = blank-at n i
+
+pub turn-blank : (b : Batch) (number j : ℕ) (report : Report) (limit i : ℕ) → turned b number j report limit .count ≤ i
+    → getD (turned b number j report limit .steps) i noStep ≡ noStep
+turn-blank b number j report limit i h =
+    if-or (eqb (reported b number j report .refusal) 0)
+    (λ t.
+    rw (turn-taken b number j report limit t)
+    (from-blank (reported b number j report .batch) noSteps 0 (min limit 16) (λ k l. blank-at 16 k) i
+    (rw (turn-taken b number j report limit t) at h)))
+    (λ f. rw (turn-refused b number j report limit f) (blank-at 16 i))
