@@ -210,6 +210,23 @@ module _ (b : Batch) (number j : ℕ) (report : Report) (limit : ℕ) where
   unfolding turned
   turn-refused f = rw f
 
+-- R66: its number is that of its beginning, and a refused one takes no step.
+pub turn-refusal : (b : Batch) (number j : ℕ) (report : Report) (limit : ℕ)
+    → turned b number j report limit .refusal ≡ reported b number j report .refusal
+turn-refusal b number j report limit =
+    if-or (eqb (reported b number j report .refusal) 0)
+    (λ t.
+    rw (turn-taken b number j report limit t)
+    (from-accepted (reported b number j report .batch) noSteps 0 (min limit 16) ∙ sym (eqb-true (reported b number j report .refusal) 0 t)))
+    (λ f. rw (turn-refused b number j report limit f))
+
+pub turn-none : (b : Batch) (number j : ℕ) (report : Report) (limit : ℕ) → (turned b number j report limit .refusal ≡ 0 → ⊥)
+    → turned b number j report limit .count ≡ 0
+turn-none b number j report limit refused =
+    if-or (eqb (reported b number j report .refusal) 0)
+    (λ t. absurd (refused (turn-refusal b number j report limit ∙ eqb-true (reported b number j report .refusal) 0 t)))
+    (λ f. rw (turn-refused b number j report limit f))
+
 -- R161: a turn is a list of calls.
 
 -- Lists of calls, one after the other.
@@ -251,6 +268,16 @@ call-made : (b : Batch) (number j : ℕ) (report : Report) → changeOn b number
 call-made b number j report e =
     let same = by-number b number j report (change-accepted b number j report e .number-in) in
     (same, ap (λ (s : Started). s .refusal) (sym same ∙ step-is-change b number j report) ∙ e)
+
+-- So a report is refused as its call is.
+pub report-refusal : (b : Batch) (number j : ℕ) (report : Report) → isReport number ≡ true
+    → reported b number j report .refusal ≡ perform b (callBy number j report) .refusal
+unfolding reported
+report-refusal b number j report is =
+    if-or (eqb number 2)
+    (λ t. rw (eqb-true number 2 t) (ap (λ (s : Started). s .refusal) (by-number b 2 j report (omega arith))))
+    (λ f.
+    rw (eqb-true number 3 (rw f at is)) (ap (λ (s : Started). s .refusal) (by-number b 3 j report (omega arith))))
 
 -- What was noted of the steps so far: their calls, performed in their order, are accepted, lead to what the steps left, and hand
 -- out the values noted.
