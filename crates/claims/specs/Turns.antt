@@ -1,17 +1,20 @@
 -- R64 to R66, R161: what a turn comes to, held against the calls that it counts as. (Proved as `turn-told` and `turn-counts`.)
 use Prim.Native.Nat.{ℕ, _<_, _≤_, min}
-use mathlib.Core.Bool.{true}
+use mathlib.Core.Bool.{true, false, cond}
 use mathlib.Core.List.{List, _++_}
 use mathlib.Core.Path.{_≡_}
+use lib.Dec.{eqb}
 use lib.IntN.{ℤ}
 use lib.ListN.{getD}
 use Rattle.rules.specs.Call.{Call}
 use Rattle.engine.specs.declared.Report.{Report}
 use Rattle.engine.specs.declared.Batch.{Batch}
+use Rattle.engine.specs.Form.{inForm}
 use Rattle.engine.specs.Opening.{opened}
+use Rattle.engine.specs.Chooser.{chosen}
 use Rattle.engine.specs.Perform.{perform}
 use Rattle.engine.specs.InsertAllLaws.{accepts}
-use Rattle.engine.specs.Turn.{isReport, noStep, Turned, turned}
+use Rattle.engine.specs.Turn.{noReport, isReport, noStep, Turned, turned}
 use Rattle.engine.specs.TurnCalls.{callBy, reportCalls, stepCalls, turnCalls, handedAlong, handedIn}
 use Rattle.claims.specs.Trace.{batchAfter, batchOf, ledgerOf}
 use Rattle.claims.specs.Demand3.{Demand3}
@@ -30,8 +33,11 @@ pub record Turns (b : Batch) (number j : ℕ) (report : Report) (limit : ℕ) (t
   pub limited : turn .count ≤ min limit 16
   -- and fewer only where no step 4, 0 or 1 is accepted any more, on any job
   pub ended : turn .refusal ≡ 0 → turn .count < min limit 16 → (i step : ℕ) → StepAccepted (turn .batch) i step → ⊥
-  -- R66: it is refused with the number of its report, and then takes no step and changes nothing
+  -- R66: it is refused as its report is; without a report as the chooser is, but that 19 is no refusal; any other number is 21
   pub as-report : isReport number ≡ true → turn .refusal ≡ perform b (callBy number j report) .refusal
+  pub as-chooser : number ≡ noReport → turn .refusal ≡ cond (eqb (chosen b .refusal) 19) 0 (chosen b .refusal)
+  pub no-report : eqb number noReport ≡ false → isReport number ≡ false → turn .refusal ≡ cond (inForm b) 21 32
+  -- and a refused one takes no step and changes nothing
   pub none-taken : (turn .refusal ≡ 0 → ⊥) → turn .count ≡ 0
   pub unchanged : (turn .refusal ≡ 0 → ⊥) → turn .batch ≡ b
 

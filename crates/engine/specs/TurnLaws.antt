@@ -10,8 +10,8 @@ use lib.Dec.{eqb}
 use lib.IntN.{ℤ}
 use lib.ListN.{length, getD, set, take, replicate, length-set}
 use lib.Seq.{getD-set-same, getD-set-other, take-suc-set}
-use borrow.Author.Tests.{eqb-true, eq-eqb}
-use Rattle.laws.specs.SearchLaws.{if-or, clash}
+use borrow.Author.Tests.{eqb-true, eq-eqb, not-false}
+use Rattle.laws.specs.SearchLaws.{if-or, clash, not-true}
 use Rattle.rules.specs.Call.{Call}
 use Rattle.rules.specs.Refusals.{stepTests}
 use Rattle.engine.specs.declared.Report.{Report}
@@ -33,7 +33,7 @@ use Rattle.engine.specs.Chooser.{chosen}
 use Rattle.engine.specs.ChooserLaws.{Means, out-of-form, unsealed, commits, starts, speculates, nothing, chosen-means}
 use Rattle.engine.specs.Change.{changeOn, withChange}
 use Rattle.engine.specs.ChangeLaws.{step-is-change}
-use Rattle.engine.specs.Turn.{noReport, isReport, reported, blankReport, nextStep, nextTaken, noStep, noSteps, Turned, endedWith, turnFrom, turned}
+use Rattle.engine.specs.Turn.{noReport, isReport, silentRefusal, reported, blankReport, nextStep, nextTaken, noStep, noSteps, Turned, endedWith, turnFrom, turned}
 use Rattle.engine.specs.TurnChange.{noJobRun, noJobRuns, nextChange, nextRun, changesAt, changesFrom, firstChanged, firstStored}
 use Rattle.engine.specs.TurnChange.{refusedTurn, turnChange, runsStored, withTurn, turnMade}
 use Rattle.engine.specs.TurnForm.{chosen-accepted, change-accepted, change-keeps-form, Kept}
@@ -278,6 +278,29 @@ report-refusal b number j report is =
     (λ t. rw (eqb-true number 2 t) (ap (λ (s : Started). s .refusal) (by-number b 2 j report (omega arith))))
     (λ f.
     rw (eqb-true number 3 (rw f at is)) (ap (λ (s : Started). s .refusal) (by-number b 3 j report (omega arith))))
+
+-- A turn without a report is refused as the chooser is, but that 19 is no refusal.
+pub silent-refusal : (b : Batch) (j : ℕ) (report : Report)
+    → reported b noReport j report .refusal ≡ cond (eqb (chosen b .refusal) 19) 0 (chosen b .refusal)
+unfolding reported
+silent-refusal b j report = cases (chosen b) (chosen-means b)
+  where
+    going : inForm b ≡ true → snapshotOf b .sealed ≡ true → silentRefusal b ≡ 0
+    going form sealed = rw (form, not-true (eqb (b .sealed) 0) sealed)
+
+    cases : (choice : Choice) → Means b choice → silentRefusal b ≡ cond (eqb (choice .refusal) 19) 0 (choice .refusal)
+    cases choice (out-of-form f) = rw f
+    cases choice (unsealed f s) = rw (f, not-false (eqb (b .sealed) 0) s)
+    cases choice (commits f s pick best) = going f s
+    cases choice (starts f s n pick best) = going f s
+    cases choice (speculates f s n m pick best) = going f s
+    cases choice (nothing f s n m o) = going f s
+
+-- R121: a number that is neither 255 nor a report's.
+pub other-refusal : (b : Batch) (number j : ℕ) (report : Report) → eqb number noReport ≡ false → isReport number ≡ false
+    → reported b number j report .refusal ≡ cond (inForm b) 21 32
+unfolding reported
+other-refusal b number j report some none = rw (some, none)
 
 -- What was noted of the steps so far: their calls, performed in their order, are accepted, lead to what the steps left, and hand
 -- out the values noted.

@@ -14,7 +14,8 @@ use Rattle.engine.specs.Perform.{perform}
 use Rattle.engine.specs.InsertAllLaws.{performed}
 use Rattle.engine.specs.Turn.{turned}
 use Rattle.engine.specs.TurnCalls.{reportCalls, turnCalls}
-use Rattle.engine.specs.TurnLaws.{turn-refusal, turn-none, turn-unchanged, turn-performed, turn-handed, turn-ended, turn-blank, report-refusal}
+use Rattle.engine.specs.TurnLaws.{turn-refusal, turn-none, turn-unchanged, turn-performed, turn-handed, turn-ended, turn-blank}
+use Rattle.engine.specs.TurnLaws.{report-refusal, silent-refusal, other-refusal}
 use Rattle.claims.specs.Trace.{batchAfter, batchOf}
 use Rattle.claims.specs.Turns.{TurnStatement, TurnCountsStatement}
 use Rattle.theorem.specs.Theorem.{demand3}
@@ -51,6 +52,8 @@ turn-told b number j report limit =
       limited = turn-limited b number j report limit;
       ended = λ e short. chooser (turn .batch) .none (turn-ended b number j report limit e .1 short);
       as-report = λ is. turn-refusal b number j report limit ∙ report-refusal b number j report is;
+      as-chooser = λ silent. turn-refusal b number j report limit ∙ rw silent (silent-refusal b j report);
+      no-report = λ some none. turn-refusal b number j report limit ∙ other-refusal b number j report some none;
       none-taken = turn-none b number j report limit;
       unchanged = turn-unchanged b number j report limit;
     }
