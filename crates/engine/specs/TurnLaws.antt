@@ -17,6 +17,7 @@ use Rattle.rules.specs.Refusals.{stepTests}
 use Rattle.engine.specs.declared.Report.{Report}
 use Rattle.engine.specs.declared.Run.{Run}
 use Rattle.engine.specs.declared.Batch.{Batch}
+use Rattle.engine.specs.declared.Answer.{Answer}
 use Rattle.engine.specs.declared.Choice.{Choice}
 use Rattle.engine.specs.declared.Started.{Started}
 use Rattle.engine.specs.declared.Taken.{Taken}
@@ -33,7 +34,8 @@ use Rattle.engine.specs.Chooser.{chosen}
 use Rattle.engine.specs.ChooserLaws.{Means, out-of-form, unsealed, commits, starts, speculates, nothing, chosen-means}
 use Rattle.engine.specs.Change.{changeOn, withChange}
 use Rattle.engine.specs.ChangeLaws.{step-is-change}
-use Rattle.engine.specs.Turn.{noReport, isReport, silentRefusal, reported, blankReport, nextStep, nextTaken, noStep, noSteps, Turned, endedWith, turnFrom, turned}
+use Rattle.engine.specs.Turn.{noReport, isReport, silentRefusal, reported, blankReport, nextStep, nextTaken}
+use Rattle.engine.specs.Turn.{noStep, noSteps, Turned, endedWith, turnFrom, turned}
 use Rattle.engine.specs.TurnChange.{noJobRun, noJobRuns, nextChange, nextRun, changesAt, changesFrom, firstChanged, firstStored}
 use Rattle.engine.specs.TurnChange.{refusedTurn, turnChange, runsStored, withTurn, turnMade}
 use Rattle.engine.specs.TurnForm.{chosen-accepted, change-accepted, change-keeps-form, Kept}
@@ -77,6 +79,8 @@ turn-begins b number j report e =
 -- The step that the chooser names leaves its change.
 pub next-leaves : (b : Batch) → chosen b .refusal ≡ 0 → nextStep b .batch ≡ withChange b (chosen b .job) (nextChange b)
 next-leaves b e = step-leaves b (chosen b .step) (chosen b .job) blankReport (chosen-accepted b blankReport e)
+
+-- What is stored of a turn.
 
 -- What is stored so far is what the steps so far left: only runs are stored job by job.
 record StoredSo (before b : Batch) (changed : List JobRun) (stored : ℕ) : Type 0 where
@@ -163,71 +167,7 @@ first-stored b number j report (told some is accepted e) =
       rw some (omega (arith, length-set noJobRuns 0 first)),
     )
 
--- The changes that the code tells, stored, are the turn.
-pub turn-stored : (b : Batch) (number j : ℕ) (report : Report) (limit : ℕ)
-    → turnMade b (turnChange b number j report limit) ≡ turned b number j report limit
-unfolding turnChange turned
-turn-stored b number j report limit =
-    if-or (eqb (reported b number j report .refusal) 0)
-    (λ t.
-    let first = first-stored b number j report (turn-begins b number j report (eqb-true (reported b number j report .refusal) 0 t)) in
-    rw t
-    (from-stored b (reported b number j report .batch) noSteps (firstChanged b number j report) 0 (firstStored number) (min limit 16)
-    (first .0) (omega (arith, first .1))))
-    (λ f. rw f (refused-made f))
-  where
-    refused-made : {refusal : ℕ} → eqb refusal 0 ≡ false
-        → turnMade b (refusedTurn refusal) ≡ record { refusal = refusal; count = 0; steps = noSteps; batch = b }
-    refused-made f = rw f
-
--- R81: a refused turn changes nothing.
-
-from-accepted : (b : Batch) (steps : List Taken) (count n : ℕ) → turnFrom b steps count n .refusal ≡ 0
-unfolding turnFrom
-from-accepted b steps count zero = refl
-from-accepted b steps count (suc n) =
-    if-or (eqb (chosen b .refusal) 0)
-    (λ t. rw t (from-accepted (nextStep b .batch) (set steps count (nextTaken b)) (count + 1) n))
-    (λ f. rw f)
-
-pub turn-unchanged : (b : Batch) (number j : ℕ) (report : Report) (limit : ℕ) → (turned b number j report limit .refusal ≡ 0 → ⊥)
-    → turned b number j report limit .batch ≡ b
-unfolding turned
-turn-unchanged b number j report limit refused =
-    if-or (eqb (reported b number j report .refusal) 0)
-    (λ t. absurd (refused (rw t (from-accepted (reported b number j report .batch) noSteps 0 (min limit 16)))))
-    (λ f. rw f)
-
--- Of an accepted turn, and of a refused one.
-module _ (b : Batch) (number j : ℕ) (report : Report) (limit : ℕ) where
-  turn-taken : eqb (reported b number j report .refusal) 0 ≡ true
-      → turned b number j report limit ≡ turnFrom (reported b number j report .batch) noSteps 0 (min limit 16)
-  unfolding turned
-  turn-taken t = rw t
-
-  turn-refused : eqb (reported b number j report .refusal) 0 ≡ false
-      → turned b number j report limit ≡ record { refusal = reported b number j report .refusal; count = 0; steps = noSteps; batch = b }
-  unfolding turned
-  turn-refused f = rw f
-
--- R66: its number is that of its beginning, and a refused one takes no step.
-pub turn-refusal : (b : Batch) (number j : ℕ) (report : Report) (limit : ℕ)
-    → turned b number j report limit .refusal ≡ reported b number j report .refusal
-turn-refusal b number j report limit =
-    if-or (eqb (reported b number j report .refusal) 0)
-    (λ t.
-    rw (turn-taken b number j report limit t)
-    (from-accepted (reported b number j report .batch) noSteps 0 (min limit 16) ∙ sym (eqb-true (reported b number j report .refusal) 0 t)))
-    (λ f. rw (turn-refused b number j report limit f))
-
-pub turn-none : (b : Batch) (number j : ℕ) (report : Report) (limit : ℕ) → (turned b number j report limit .refusal ≡ 0 → ⊥)
-    → turned b number j report limit .count ≡ 0
-turn-none b number j report limit refused =
-    if-or (eqb (reported b number j report .refusal) 0)
-    (λ t. absurd (refused (turn-refusal b number j report limit ∙ eqb-true (reported b number j report .refusal) 0 t)))
-    (λ f. rw (turn-refused b number j report limit f))
-
--- R161: a turn is a list of calls.
+-- What a turn counts as.
 
 -- Lists of calls, one after the other.
 performed-append : (b : Batch) (calls rest : List Call) → performed b (calls ++ rest) ≡ performed (performed b calls) rest
@@ -364,56 +304,7 @@ report-performed b number j report (told some is accepted e) =
       rw (some, made .1),
     )
 
-turn-noted : (b : Batch) (number j : ℕ) (report : Report) (limit : ℕ) → eqb (reported b number j report .refusal) 0 ≡ true
-    → NotedSo (reported b number j report .batch) (turned b number j report limit .batch) (turned b number j report limit .steps)
-    (turned b number j report limit .count)
-unfolding performed accepts handedAlong
-turn-noted b number j report limit t =
-    rw (turn-taken b number j report limit t)
-    (from-noted (reported b number j report .batch) (reported b number j report .batch) noSteps 0 (min limit 16) (omega arith)
-    (record { leads = refl; accepted = refl; handed = refl }))
-
-module _ (b : Batch) (number j : ℕ) (report : Report) (limit : ℕ) where
-  abbrev turn : Turned
-  turn = turned b number j report limit
-
-  abbrev Counts : List Call → Type 0
-  Counts calls = (turn .batch ≡ performed b calls) × (accepts b calls ≡ true)
-
-  taken-counts : eqb (reported b number j report .refusal) 0 ≡ true → Counts (turnCalls number j report turn)
-  taken-counts t =
-      let first = report-performed b number j report (turn-begins b number j report (eqb-true (reported b number j report .refusal) 0 t)) in
-      let noted = turn-noted b number j report limit t in
-      let steps = stepCalls (turn .steps) (turn .count) in
-      let accepted : turn .refusal ≡ 0 =
-      rw (turn-taken b number j report limit t) (from-accepted (reported b number j report .batch) noSteps 0 (min limit 16)) in
-      rw accepted (
-        noted .leads ∙ rw (first .0) (sym (performed-append b (reportCalls number j report) steps)),
-        accepts-append b (reportCalls number j report) steps (first .1) (rw (← first .0) (noted .accepted)),
-      )
-
-  refused-counts : eqb (reported b number j report .refusal) 0 ≡ false → Counts (turnCalls number j report turn)
-  unfolding performed accepts
-  refused-counts f = rw (turn-refused b number j report limit f, f) (refl, refl)
-
-  -- The calls that a turn counts as are accepted, one after the other, and lead to the batch that it leaves.
-  pub turn-performed : (turn .batch ≡ performed b (turnCalls number j report turn)) × (accepts b (turnCalls number j report turn) ≡ true)
-  turn-performed = if-or (eqb (reported b number j report .refusal) 0) taken-counts refused-counts
-
--- R65: each step stands in the list with the values that it handed out.
-pub turn-handed : (b : Batch) (number j : ℕ) (report : Report) (limit : ℕ)
-    → handedIn (turned b number j report limit .steps) (turned b number j report limit .count)
-    ≡ handedAlong (performed b (reportCalls number j report))
-    (stepCalls (turned b number j report limit .steps) (turned b number j report limit .count))
-unfolding handedAlong
-turn-handed b number j report limit =
-    if-or (eqb (reported b number j report .refusal) 0)
-    (λ t.
-    let first = report-performed b number j report (turn-begins b number j report (eqb-true (reported b number j report .refusal) 0 t)) in
-    rw (← first .0) (turn-noted b number j report limit t .handed))
-    (λ f. rw (turn-refused b number j report limit f))
-
--- R65: where a turn ends.
+-- Where a turn ends.
 
 -- A sealed batch in form: steps may be taken.
 pub record Going (b : Batch) : Type 0 where
@@ -470,19 +361,6 @@ report-goes-on : (b : Batch) (number j : ℕ) (report : Report) → Begins b num
 report-goes-on b number j report (silent none form closed e) = rw e (record { form = form; closed = closed })
 report-goes-on b number j report (told some is accepted e) = rw e (step-goes-on b number j report accepted)
 
-pub turn-ended : (b : Batch) (number j : ℕ) (report : Report) (limit : ℕ) → turned b number j report limit .refusal ≡ 0
-    → (turned b number j report limit .count ≤ min limit 16)
-    × (turned b number j report limit .count < min limit 16 → chosen (turned b number j report limit .batch) .refusal ≡ 19)
-turn-ended b number j report limit accepted =
-    if-or (eqb (reported b number j report .refusal) 0)
-    (λ t.
-    let begins = turn-begins b number j report (eqb-true (reported b number j report .refusal) 0 t) in
-    let ends : Ends (min limit 16) (turned b number j report limit) =
-    rw (turn-taken b number j report limit t)
-    (from-ends (reported b number j report .batch) noSteps 0 (min limit 16) (min limit 16) (omega arith) (report-goes-on b number j report begins)) in
-    (ends .within, λ h. going-stuck (turned b number j report limit .batch) (ends .going) (ends .short h)))
-    (λ f. clash (eq-eqb (reported b number j report .refusal) 0 (rw (turn-refused b number j report limit f) at accepted)) f)
-
 -- In the places after the steps taken stand zeros.
 from-blank : (b : Batch) (steps : List Taken) (count n : ℕ) → ((i : ℕ) → count ≤ i → getD steps i noStep ≡ noStep)
     → (i : ℕ) → turnFrom b steps count n .count ≤ i → getD (turnFrom b steps count n .steps) i noStep ≡ noStep
@@ -501,12 +379,125 @@ blank-at zero i = refl
 blank-at (suc n) zero = refl
 blank-at (suc n) (suc i) = blank-at n i
 
-pub turn-blank : (b : Batch) (number j : ℕ) (report : Report) (limit i : ℕ) → turned b number j report limit .count ≤ i
-    → getD (turned b number j report limit .steps) i noStep ≡ noStep
-turn-blank b number j report limit i h =
-    if-or (eqb (reported b number j report .refusal) 0)
-    (λ t.
-    rw (turn-taken b number j report limit t)
-    (from-blank (reported b number j report .batch) noSteps 0 (min limit 16) (λ k l. blank-at 16 k) i
-    (rw (turn-taken b number j report limit t) at h)))
-    (λ f. rw (turn-refused b number j report limit f) (blank-at 16 i))
+-- Steps are never refused.
+from-accepted : (b : Batch) (steps : List Taken) (count n : ℕ) → turnFrom b steps count n .refusal ≡ 0
+unfolding turnFrom
+from-accepted b steps count zero = refl
+from-accepted b steps count (suc n) =
+    if-or (eqb (chosen b .refusal) 0)
+    (λ t. rw t (from-accepted (nextStep b .batch) (set steps count (nextTaken b)) (count + 1) n))
+    (λ f. rw f)
+
+-- The turn.
+
+module _ (b : Batch) (number j : ℕ) (report : Report) (limit : ℕ) where
+  abbrev first : Answer
+  first = reported b number j report
+
+  abbrev turn : Turned
+  turn = turned b number j report limit
+
+  begun : eqb (first .refusal) 0 ≡ true → Begins b number j report
+  begun t = turn-begins b number j report (eqb-true (first .refusal) 0 t)
+
+  -- An accepted turn takes its steps on what its report left, and a refused one takes none.
+
+  turn-taken : eqb (first .refusal) 0 ≡ true → turn ≡ turnFrom (first .batch) noSteps 0 (min limit 16)
+  unfolding turned
+  turn-taken t = rw t
+
+  turn-refused : eqb (first .refusal) 0 ≡ false → turn ≡ record { refusal = first .refusal; count = 0; steps = noSteps; batch = b }
+  unfolding turned
+  turn-refused f = rw f
+
+  -- The changes that the code tells, stored, are the turn.
+  pub turn-stored : turnMade b (turnChange b number j report limit) ≡ turn
+  unfolding turnChange turned
+  turn-stored =
+      if-or (eqb (first .refusal) 0)
+      (λ t.
+      let so = first-stored b number j report (begun t) in
+      rw t
+      (from-stored b (first .batch) noSteps (firstChanged b number j report) 0 (firstStored number) (min limit 16) (so .0)
+      (omega (arith, so .1))))
+      (λ f. rw f (refused-made f))
+    where
+      refused-made : {refusal : ℕ} → eqb refusal 0 ≡ false
+          → turnMade b (refusedTurn refusal) ≡ record { refusal = refusal; count = 0; steps = noSteps; batch = b }
+      refused-made f = rw f
+
+  -- R66: its number is that of its beginning.
+  pub turn-refusal : turn .refusal ≡ first .refusal
+  turn-refusal =
+      if-or (eqb (first .refusal) 0)
+      (λ t. rw (turn-taken t) (from-accepted (first .batch) noSteps 0 (min limit 16) ∙ sym (eqb-true (first .refusal) 0 t)))
+      (λ f. rw (turn-refused f))
+
+  -- R66, R81: a refused turn changes nothing, and takes no step.
+
+  refused-first : (turn .refusal ≡ 0 → ⊥) → eqb (first .refusal) 0 ≡ false
+  refused-first refused =
+      if-or (eqb (first .refusal) 0) (λ t. absurd (refused (turn-refusal ∙ eqb-true (first .refusal) 0 t))) (λ f. f)
+
+  pub turn-unchanged : (turn .refusal ≡ 0 → ⊥) → turn .batch ≡ b
+  turn-unchanged refused = rw (turn-refused (refused-first refused))
+
+  pub turn-none : (turn .refusal ≡ 0 → ⊥) → turn .count ≡ 0
+  turn-none refused = rw (turn-refused (refused-first refused))
+
+  -- R161: the calls that a turn counts as are accepted, one after the other, and lead to the batch that it leaves.
+
+  turn-noted : eqb (first .refusal) 0 ≡ true → NotedSo (first .batch) (turn .batch) (turn .steps) (turn .count)
+  unfolding performed accepts handedAlong
+  turn-noted t =
+      rw (turn-taken t)
+      (from-noted (first .batch) (first .batch) noSteps 0 (min limit 16) (omega arith)
+      (record { leads = refl; accepted = refl; handed = refl }))
+
+  abbrev Counts : List Call → Type 0
+  Counts calls = (turn .batch ≡ performed b calls) × (accepts b calls ≡ true)
+
+  taken-counts : eqb (first .refusal) 0 ≡ true → Counts (turnCalls number j report turn)
+  taken-counts t =
+      let calls = reportCalls number j report in
+      let made = report-performed b number j report (begun t) in
+      let noted = turn-noted t in
+      let accepted : turn .refusal ≡ 0 = turn-refusal ∙ eqb-true (first .refusal) 0 t in
+      rw accepted (
+        noted .leads ∙ rw (made .0) (sym (performed-append b calls (stepCalls (turn .steps) (turn .count)))),
+        accepts-append b calls (stepCalls (turn .steps) (turn .count)) (made .1) (rw (← made .0) (noted .accepted)),
+      )
+
+  refused-counts : eqb (first .refusal) 0 ≡ false → Counts (turnCalls number j report turn)
+  unfolding performed accepts
+  refused-counts f = rw (turn-refused f, f) (refl, refl)
+
+  pub turn-performed : (turn .batch ≡ performed b (turnCalls number j report turn)) × (accepts b (turnCalls number j report turn) ≡ true)
+  turn-performed = if-or (eqb (first .refusal) 0) taken-counts refused-counts
+
+  -- R65: each step stands in the list with the values that it handed out,
+  pub turn-handed : handedIn (turn .steps) (turn .count)
+      ≡ handedAlong (performed b (reportCalls number j report)) (stepCalls (turn .steps) (turn .count))
+  unfolding handedAlong
+  turn-handed =
+      if-or (eqb (first .refusal) 0)
+      (λ t. rw (← report-performed b number j report (begun t) .0) (turn-noted t .handed))
+      (λ f. rw (turn-refused f))
+
+  -- and after them stand zeros.
+  pub turn-blank : (i : ℕ) → turn .count ≤ i → getD (turn .steps) i noStep ≡ noStep
+  turn-blank i h =
+      if-or (eqb (first .refusal) 0)
+      (λ t.
+      rw (turn-taken t)
+      (from-blank (first .batch) noSteps 0 (min limit 16) (λ k l. blank-at 16 k) i (rw (turn-taken t) at h)))
+      (λ f. rw (turn-refused f) (blank-at 16 i))
+
+  -- There are no more than the limit says and than 16, and fewer only where the chooser answers 19.
+  pub turn-ended : turn .refusal ≡ 0 → (turn .count ≤ min limit 16) × (turn .count < min limit 16 → chosen (turn .batch) .refusal ≡ 19)
+  turn-ended accepted =
+      let t = eq-eqb (first .refusal) 0 (sym turn-refusal ∙ accepted) in
+      let ends : Ends (min limit 16) turn =
+      rw (turn-taken t)
+      (from-ends (first .batch) noSteps 0 (min limit 16) (min limit 16) (omega arith) (report-goes-on b number j report (begun t))) in
+      (ends .within, λ h. going-stuck (turn .batch) (ends .going) (ends .short h))
