@@ -13,3 +13,4 @@ pub mod Bypassed
 pub mod FormerRule
 pub mod Judged
 pub mod Predicted
+pub mod Turns

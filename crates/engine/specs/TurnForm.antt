@@ -37,7 +37,8 @@ use Rattle.engine.specs.FormLaws.{form-job}
 use Rattle.engine.specs.FormPass.{refusedAt, runOut}
 use Rattle.engine.specs.SourceLimit.{source-limit}
 use Rattle.engine.specs.OpeningLaws.{next-passed}
-use Rattle.engine.specs.Steps.{stepRefusal, withJobChanged, newRun, reportedRun, ownValues, speculativeValues, sourcesNow, startedOwn, startedSpeculation, committedBy}
+use Rattle.engine.specs.Steps.{stepRefusal, withJobChanged, newRun, reportedRun, ownValues, speculativeValues, sourcesNow}
+use Rattle.engine.specs.Steps.{startedOwn, startedSpeculation, committedBy}
 use Rattle.engine.specs.StepLaws.{step-held, step-few}
 use Rattle.engine.specs.ByNumber.{stepped}
 use Rattle.engine.specs.Chooser.{chosen}
@@ -255,7 +256,8 @@ module _ (b : Batch) (j : ℕ) (change : Change) (form : inForm b ≡ true) (hel
       let old = held-in b j (form-job b form j held) in
       in-held (withChange b j change) j (admitted b j (form-job b form j held))
       (record {
-        committed-in = stored-holds (λ (x : ℕ). x ≤ 2) (b .committed) j (change .now .committed) 0 (old .committed-in) (left .committed-in);
+        committed-in =
+            stored-holds (λ (x : ℕ). x ≤ 2) (b .committed) j (change .now .committed) 0 (old .committed-in) (left .committed-in);
         running-in = stored-holds (λ (x : ℕ). x ≤ 1) (b .running) j (change .now .running) 0 (old .running-in) (left .running-in);
         phase-in = stored-holds (λ (x : ℕ). x ≤ 3) (b .phase) j (change .now .phase) 0 (old .phase-in) (left .phase-in);
         run-in = stored-holds (λ (r : Run). runOut r j ≡ false) (b .runs) j (change .run) noRun (old .run-in) (left .run-in);

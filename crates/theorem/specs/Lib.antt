@@ -35,3 +35,4 @@ pub mod FormerRule
 pub mod Later
 pub mod Judged
 pub mod Predicted
+pub mod Turns
