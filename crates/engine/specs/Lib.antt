@@ -2,7 +2,6 @@ pub mod Record
 pub mod Form
 pub mod FormLaws
 pub mod FormPass
-pub mod Forwarding
 pub mod Opening
 pub mod OpeningLaws
 pub mod InsertAll
@@ -30,3 +29,4 @@ pub mod TurnCalls
 pub mod TurnLaws
 pub mod TurnPass
 pub mod TurnMoves
+pub mod TurnStart

@@ -1,5 +1,5 @@
 -- A speculative run is forwarded from earlier jobs only, and the code's test of its sources is the rule's.
-use Prim.Native.Nat.{ℕ, zero, suc, _<_, _≤_}
+use Prim.Native.Nat.{ℕ, zero, suc, _-_, _<_, _≤_}
 use native.Mathlib.Omega.{arith}
 use mathlib.Core.Bool.{Bool, true, false, cond}
 use mathlib.Core.List.{List}
@@ -8,13 +8,16 @@ use lib.ListN.{getD}
 use Rattle.laws.specs.Search.{anyBelow}
 use Rattle.dependence.specs.declared.Job.{Job}
 use Rattle.dependence.specs.Job.{accessAt, jobAt}
+use Rattle.walk.specs.declared.origins.Origins.{Origins}
 use Rattle.walk.specs.Sources.{sourceFor, sourceIn, sourcesOf, committedIn}
+use Rattle.walk.specs.Origins.{originsOf}
 use Rattle.walk.specs.SourceLaws.{source-le}
 use Rattle.rules.specs.Walk.{looksBack}
 use Rattle.rules.specs.Speculation.{sourceMissing}
 use Rattle.engine.specs.declared.Batch.{Batch}
-use Rattle.engine.specs.Record.{snapshotOf}
-use Rattle.engine.specs.Speculation.{unusableAny, SourcesHeld}
+use Rattle.engine.specs.Record.{runAt, snapshotOf}
+use Rattle.engine.specs.Speculation.{unusableAny, SourcesHeld, guessFrom}
+use Rattle.engine.specs.Change.{guessAt}
 
 pub source-limit : (jobs : List Job) (committed : List ℕ) (j place : ℕ) → sourceIn jobs committed j place ≤ j
 source-limit jobs committed j place = cases (looksBack (jobAt jobs j) place)
@@ -39,3 +42,13 @@ pub missing-is : (b : Batch) (j : ℕ) (sources : List ℕ) → sources ≡ sour
     → unusableAny sources (b .phase) ≡ sourceMissing (snapshotOf b) j
 unfolding anyBelow
 missing-is b j sources e = rw e
+
+-- The guess made of the places that the sources say is the guess that is started.
+pub guess-is : (b : Batch) (j : ℕ) (origins : Origins) → origins ≡ originsOf (b .jobs) (b .committed) j
+    → guessFrom (jobAt (b .jobs) j) (b .cells) origins
+    (jobAt (b .jobs) (getD (origins .sources) 0 0 - 1)) (runAt b (getD (origins .sources) 0 0 - 1))
+    (jobAt (b .jobs) (getD (origins .sources) 1 0 - 1)) (runAt b (getD (origins .sources) 1 0 - 1))
+    (jobAt (b .jobs) (getD (origins .sources) 2 0 - 1)) (runAt b (getD (origins .sources) 2 0 - 1))
+    (jobAt (b .jobs) (getD (origins .sources) 3 0 - 1)) (runAt b (getD (origins .sources) 3 0 - 1))
+    ≡ guessAt b j
+guess-is b j origins e = rw e

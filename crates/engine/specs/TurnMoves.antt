@@ -6,14 +6,13 @@ use mathlib.Core.Bool.{Bool, true, false, cond, not, _&&_, _||_}
 use mathlib.Core.List.{List}
 use mathlib.Core.Path.{_≡_, refl, sym, ap, _∙_, subst}
 use lib.Dec.{eqb, ltb}
-use lib.ListN.{getD, set, drop, length-set}
+use lib.ListN.{length, getD, set, drop, length-set}
 use borrow.Author.Tests.{eqb-true, eqb-false, eq-eqb, ne-eqb, ltb-true, ltb-false}
 use Rattle.laws.specs.Fold.{column}
-use Rattle.laws.specs.SearchLaws.{if-or, or-left, or-right}
+use Rattle.laws.specs.SearchLaws.{if-or, clash}
 use Rattle.dependence.specs.Job.{jobAt}
 use Rattle.passes.specs.Chain.{chainLengthAt}
 use Rattle.rules.specs.Snapshot.{isStored}
-use Rattle.rules.specs.Speculation.{sourceMissing}
 use Rattle.cellset.specs.Survey.{columns, Surveyed}
 use Rattle.engine.specs.declared.Batch.{Batch}
 use Rattle.engine.specs.declared.Choice.{Choice}
@@ -36,7 +35,9 @@ use Rattle.engine.specs.ChooserPass.{Columned, openAt, columned-later}
 use Rattle.engine.specs.Ranks.{judgedAt, Ranked, survey-ranked, judge-ranked, stepOf, top-reaches, top-met, rank-is, choice-none, choice-top, lowestBelow, highestBelow, lowest-le, lowest-met, pick-is, best, best-in, lowest-in, sole-is}
 use Rattle.engine.specs.Turn.{blankReport, nextStep, nextTaken}
 use Rattle.engine.specs.TurnChange.{nextChange, nextRun, changesAt, changesFrom}
-use Rattle.engine.specs.TurnForm.{chosen-accepted, change-accepted, change-keeps-form}
+use Rattle.cellset.specs.AllowedLaws.{allowedRank}
+use Rattle.engine.specs.TurnForm.{chosen-accepted, Accepted, change-accepted, change-keeps-form}
+use Rattle.engine.specs.TurnLaws.{next-leaves}
 use Rattle.engine.specs.TurnPass.{own-made, commit-made, guess-made, Named, own, guess, settle, named-open, opened-before, own-ranked, guess-ranked}
 
 -- How a turn stands that is to come to `goal`: the batch as the steps so far left it, with its columns of words, its ranks, the
@@ -75,6 +76,46 @@ unfolding changesFrom
 one-more b taken changed count stored most h e =
     let more : most - count ≡ suc (most - (count + 1)) = omega arith in
     rw (more, e)
+
+-- The step of a rank.
+module _ (b : Batch) (p : ℕ) where
+  named-step : (top : ℕ) → top ≤ 3 → 0 < top → Named b p blankReport (stepOf top)
+  named-step zero low some = absurd (omega arith)
+  named-step (suc zero) low some = guess
+  named-step (suc (suc zero)) low some = own
+  named-step (suc (suc (suc zero))) low some = settle
+  named-step (suc (suc (suc (suc top)))) low some = absurd (omega arith)
+
+  by-rank : (change : Change) (top : ℕ) → top ≤ 3 → 0 < top → changeFor b (stepOf top) p blankReport .refusal ≡ 0
+      → ((top ≡ 1 → ⊥) → change ≡ plainChange (stepOf top) (jobAt (b .jobs) p) (runAt b p) (standingAt b p) (b .cells) blankReport true)
+      → (top ≡ 1 → change ≡ speculationStart (not (eqb (b .speculating) 0)) (standingAt b p) (b .cells) false false (guessAt b p))
+      → change ≡ changeFor b (stepOf top) p blankReport
+  by-rank change zero low some e plain guessed = absurd (omega arith)
+  by-rank change (suc zero) low some e plain guessed = guess-made b p blankReport e (guessed refl)
+  by-rank change (suc (suc zero)) low some e plain guessed = own-made b p blankReport e (plain (λ q. absurd (omega (arith, q))))
+  by-rank change (suc (suc (suc zero))) low some e plain guessed = commit-made b p blankReport e (plain (λ q. absurd (omega (arith, q))))
+  by-rank change (suc (suc (suc (suc top)))) low some e plain guessed = absurd (omega arith)
+
+  rank-after : (top : ℕ) → top ≤ 3 → 0 < top → changeFor b (stepOf top) p blankReport .refusal ≡ 0 → p < 128 → Sized b → (ranks : List ℕ)
+      → ((j : ℕ) → j < b .«job_count» → getD ranks j 0 ≡ allowedRank (snapshotOf b) j)
+      → ((j : ℕ) → j < b .«job_count» → getD ranks j 0 ≤ 3) → length ranks ≡ 128
+      → (eqb top 3 || (eqb top 2 && eqb (getD (b .phase) p 0) 2)) ≡ false
+      → Ranked (withChange b p (changeFor b (stepOf top) p blankReport)) (set ranks p 0)
+  rank-after zero low some e h sized ranks is-rank few long quiet = absurd (omega arith)
+  rank-after (suc zero) low some e h sized ranks is-rank few long quiet = guess-ranked b p blankReport h sized ranks is-rank few long e
+  rank-after (suc (suc zero)) low some e h sized ranks is-rank few long quiet = own-ranked b p blankReport h sized ranks is-rank few long e quiet
+  rank-after (suc (suc (suc zero))) low some e h sized ranks is-rank few long quiet = clash refl quiet
+  rank-after (suc (suc (suc (suc top)))) low some e h sized ranks is-rank few long quiet = absurd (omega arith)
+
+sized-after : (b : Batch) (p : ℕ) (change : Change) → Sized b → Sized (withChange b p change)
+unfolding withJobChanged
+sized-after b p change s = record {
+  jobs-length = s .jobs-length;
+  runs-length = length-set (b .runs) p (change .run) ∙ s .runs-length;
+  committed-length = length-set (b .committed) p (change .now .committed) ∙ s .committed-length;
+  running-length = length-set (b .running) p (change .now .running) ∙ s .running-length;
+  phase-length = length-set (b .phase) p (change .now .phase) ∙ s .phase-length;
+}
 
 module _ {goal : TurnChange} {most n : ℕ} {on : Bool} {names written sure back arities : List ℕ} {b : Batch} {ranks : List ℕ}
     {taken : List Taken} {changed : List JobRun} {count stored : ℕ} {chains : List ℕ} {known : ℕ}
@@ -167,3 +208,90 @@ module _ {goal : TurnChange} {most n : ℕ} {on : Bool} {names written sure back
 
     pub number-is : stepOf top ≡ chosen b .step
     number-is = ap (λ (choice : Choice). choice .step) named-is
+
+    -- The change of that step, made as the code makes it.
+    module _ {p : ℕ} (is-p : p ≡ chosen b .job) (change : Change)
+        (plain : (top ≡ 1 → ⊥) → change ≡ plainChange (stepOf top) (jobAt (b .jobs) p) (runAt b p) (standingAt b p) (b .cells) blankReport true)
+        (guessed : top ≡ 1 → change ≡ speculationStart (not (eqb (b .speculating) 0)) (standingAt b p) (b .cells) false false (guessAt b p)) where
+      unrefused : changeOn b (stepOf top) p blankReport .refusal ≡ 0
+      unrefused = rw (number-is, is-p) (chosen-accepted b blankReport accepted)
+
+      abbrev step : Accepted b (stepOf top) p blankReport
+      step = change-accepted b (stepOf top) p blankReport unrefused
+
+      change-for : change ≡ changeFor b (stepOf top) p blankReport
+      change-for = by-rank b p change top low some (step .made) plain guessed
+
+      change-is : change ≡ nextChange b
+      change-is = change-for ∙ sym (step .is-made) ∙ rw (number-is, is-p)
+
+      abbrev after : Batch
+      after = withChange b p change
+
+      after-is : nextStep b .batch ≡ after
+      after-is = next-leaves b accepted ∙ rw (is-p, change-is)
+
+      handed-is : nextStep b .handed ≡ change .handed
+      handed-is =
+          ap (λ (s : Started). s .handed) (step-is-change b (chosen b .step) (chosen b .job) blankReport)
+          ∙ rw (chosen-accepted b blankReport accepted, change-is)
+
+      abbrev noted : Taken
+      noted = record { step = stepOf top; job = p; handed = change .handed }
+
+      abbrev kept : JobRun
+      kept = record { job = p; run = change .run }
+
+      left-after : count < most
+          → goal ≡ changesFrom after (set taken count noted) (set changed stored kept) (count + 1) (stored + 1) (most - (count + 1))
+      left-after h =
+          g .left
+          ∙ one-more b taken changed count stored most h accepted
+          ∙ rw (after-is, handed-is, number-is, is-p, change-is)
+
+      -- Where the step takes nothing from the others, their ranks stay.
+      pub ranks-left : p < n → (eqb top 3 || (eqb top 2 && eqb (getD (b .phase) p 0) 2)) ≡ false → Ranked after (set ranks p 0)
+      ranks-left h quiet =
+          rw change-for
+          (rank-after b p top low some (step .made) (omega (arith, h, g .held, form-counts b (g .form) .few-jobs)) (g .sized) ranks
+          (rank-is b (g .form) (g .closed) ranks (g .ranked) top is-largest low)
+          (λ j l. omega (arith, is-largest, low, top-reaches (b .«job_count») ranks j l)) (g .ranked .long) quiet)
+
+      abbrev unsettled : openAt b p ≡ true
+      unsettled = named-open b p blankReport (stepOf top) (named-step b p top low some) (step .made)
+
+      columned-after : Columned after n names written sure back arities
+      unfolding withJobChanged
+      columned-after = columned-later b after n names written sure back arities refl (opened-before b p blankReport change unsettled) (g .columned)
+
+      form-after : inForm after ≡ true
+      form-after =
+          ap (λ (made : Change). inForm (withChange b p made)) (change-for ∙ sym (step .is-made))
+          ∙ change-keeps-form b (stepOf top) p blankReport unrefused
+
+      -- What holds after it, with the chains that are known now.
+      pub step-taken : count < most → {lengths : List ℕ} {from : ℕ} → drop from lengths ≡ drop from (column 128 n (chainLengthAt (b .jobs) n) 0)
+          → {left : List ℕ} → Ranked after left
+          → Underway goal most n on names written sure back arities after left (set taken count noted) (set changed stored kept) (count + 1) (stored + 1) lengths from
+      unfolding withJobChanged
+      step-taken h right ranked = record {
+        held = g .held;
+        form = form-after;
+        closed = g .closed;
+        switch = g .switch;
+        sized = sized-after b p change (g .sized);
+        columned = columned-after;
+        ranked = ranked;
+        chained = right;
+        left = left-after h;
+      }
+
+      -- Else the jobs are surveyed again.
+      pub ranks-anew : {left : List ℕ}
+          → Surveyed on (columns names written sure back (after .committed) (after .running) (after .phase)) n left → Ranked after left
+      unfolding withJobChanged
+      ranks-anew {left} surveyed =
+          survey-ranked after form-after (g .closed) names written sure back arities
+          (subst (λ (m : ℕ). Columned after m names written sure back arities) (g .held) columned-after) left
+          (subst (λ (m : ℕ). Surveyed (not (eqb (b .speculating) 0)) (columns names written sure back (after .committed) (after .running) (after .phase)) m left) (g .held)
+          (subst (λ (t : Bool). Surveyed t (columns names written sure back (after .committed) (after .running) (after .phase)) n left) (g .switch) surveyed))

@@ -211,7 +211,8 @@ module _ (b : Batch) (p : ℕ) (report : Report) where
       ∷ []) (tt, (tt, (tt, tt))) e in
       (unsettled (eqb (waiting .committed) 0) _ (t .0), not-false isFree (t .1 .0))
 
-  guess-passed : changeFor b 1 p report .refusal ≡ 0 → (openAt b p ≡ true) × (waiting .phase ≡ 0) × (isFree ≡ false)
+  guess-passed : changeFor b 1 p report .refusal ≡ 0
+      → (openAt b p ≡ true) × (waiting .phase ≡ 0) × (isFree ≡ false) × (sourceMissing (snapshotOf b) p ≡ false)
   unfolding changeFor
   guess-passed e =
       let t =
@@ -227,6 +228,7 @@ module _ (b : Batch) (p : ℕ) (report : Report) where
             (or-right (not (eqb (waiting .running) 0)) (not (neverStarted (waiting .phase)))
             (or-right (isCommitted (waiting .committed)) _ (t .1 .0)))),
         t .1 .1 .0,
+        t .1 .1 .1 .0,
       )
 
   -- The steps that the chooser names.
@@ -251,11 +253,9 @@ module _ (b : Batch) (p : ℕ) (report : Report) where
   commit-made e f = f ∙ rw (commit-passed e .1)
 
   pub guess-made : changeFor b 1 p report .refusal ≡ 0 → {made : Change}
-      → made
-      ≡ speculationStart (not (eqb (b .speculating) 0)) waiting (b .cells) false (sourceMissing (snapshotOf b) p) (guessAt b p)
-      → made ≡ changeFor b 1 p report
+      → made ≡ speculationStart (not (eqb (b .speculating) 0)) waiting (b .cells) false false (guessAt b p) → made ≡ changeFor b 1 p report
   unfolding changeFor
-  guess-made e f = f ∙ rw (guess-passed e .2)
+  guess-made e f = f ∙ rw (guess-passed e .2, guess-passed e .3)
 
   -- No job is open again after a change on an open one.
   pub opened-before : (change : Change) → openAt b p ≡ true → (i : ℕ) → openAt (withChange b p change) i ≡ true → openAt b i ≡ true

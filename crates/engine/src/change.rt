@@ -5,13 +5,12 @@
 ghost use mathlib.Core.Path.{_≡_};
 ghost use mathlib.Core.Bool.{not, _&&_};
 ghost use lib.Dec.{eqb};
-ghost use Prim.Native.Nat.{_<_};
+ghost use Prim.Native.Nat.{_-_, _<_, _≤_};
 ghost use Rattle.dependence.specs.Ready.{waitsFor};
 ghost use Rattle.walk.specs.Origins.{AllPlain};
-ghost use Rattle.rules.specs.Values.{four};
 ghost use Rattle.rules.specs.Speculation.{sourceMissing};
 ghost use Rattle.engine.specs.Record.{snapshotOf};
-ghost use Rattle.engine.specs.Speculation.{SourcesHeld, forwardedAt};
+ghost use Rattle.engine.specs.Speculation.{forwardedAt, guessFrom};
 ghost use Rattle.engine.specs.Change.{ownReport, speculationReport, ownStart, commitChange, speculationStart, guessAt, plainChange, askedBelow, refusedChange, changeOn};
 use crate::Batch;
 use crate::Report;
@@ -168,7 +167,7 @@ fn commit_change(job: Job, run: Run, now: Standing, cells: [i32; 64], ready: boo
 }
 
 /// Step 1, with where the values come from.
-fn speculation_start(
+pub(crate) fn speculation_start(
     on: bool,
     now: Standing,
     cells: [i32; 64],
@@ -243,31 +242,67 @@ fn stays_ready(ready: bool, job: Job, earlier: Job, how: u8) -> bool
     false
 }
 
-impl Batch {
-    /// What the speculative run is handed: at each place forwarded from its source, or what is presumed there.
-    fn forwarded_values(self, job: Job, presumed: [i32; 4], sources: [u8; 4]) -> [i32; 4]
-        requires { ⌜ SourcesHeld sources ⌝ }
-        ensures { λ r. ⌜ r ≡ four (forwardedAt self job presumed sources) ⌝ }
-    {
-        let mut handed = presumed;
-        let mut place: usize = 0;
-        while place < 4 {
-            let source = sources[place] as usize;
-            if source != 0 {
-                let writer = self.jobs[source - 1];
-                let run = self.runs[source - 1];
-                let reported = run.reported;
-                let access = job.accesses[place];
-                let value = runs::value_for(writer, reported, access.cell);
-                handed[place] = value;
-            }
-            place += 1;
-        }
-        handed
+/// Where the job that a value is taken from stands; of no source, which is 0, the place means nothing.
+pub(crate) fn place_of(source: u8) -> usize
+    requires { ⌜ source ≤ 128 ⌝ }
+    ensures { λ r. ⌜ (r ≡ source - 1) × (r < 128) ⌝ }
+{
+    if source == 0 {
+        return 0;
     }
+    (source - 1) as usize
+}
 
+/// What the guess is handed at a place: forwarded from the source's report, or what is presumed there.
+fn forwarded(
+    job: Job,
+    place: usize,
+    source: u8,
+    writer: Job,
+    run: Run,
+    presumed: [i32; 4],
+) -> i32
+    requires { ⌜ place < 4 ⌝ }
+    ensures { λ r. ⌜ r ≡ forwardedAt job place source writer run presumed ⌝ }
+{
+    if source == 0 {
+        let height = presumed[place];
+        return height;
+    }
+    let reported = run.reported;
+    let access = job.accesses[place];
+    runs::value_for(writer, reported, access.cell)
+}
+
+/// The guess, given where its values come from, and for each place the job that it is taken from and that job's run.
+pub(crate) fn guess_from(
+    job: Job,
+    cells: [i32; 64],
+    origins: Origins,
+    a: Job,
+    x: Run,
+    b: Job,
+    y: Run,
+    c: Job,
+    z: Run,
+    d: Job,
+    w: Run,
+) -> Run
+    ensures { λ r. ⌜ r ≡ guessFrom job cells origins a x b y c z d w ⌝ }
+{
+    let presumed = runs::presumed_values(job, cells);
+    let sources = origins.sources;
+    let first = forwarded(job, 0, sources[0], a, x, presumed);
+    let second = forwarded(job, 1, sources[1], b, y, presumed);
+    let third = forwarded(job, 2, sources[2], c, z, presumed);
+    let fourth = forwarded(job, 3, sources[3], d, w, presumed);
+    let bypassed = origins.bypassed;
+    new_run([first, second, third, fourth], sources, bypassed)
+}
+
+impl Batch {
     /// What step 1 comes to on job `j`, which stands so and is ready or not.
-    pub(crate) fn speculation_change(self, j: usize, now: Standing, ready: bool) -> Change
+    fn speculation_change(self, j: usize, now: Standing, ready: bool) -> Change
         requires { ⌜ (j < 128) × AllPlain (self .jobs) j ⌝ }
         ensures { λ r. ⌜ r ≡ speculationStart (not (eqb (self .speculating) 0)) now (self .cells) ready (sourceMissing (snapshotOf self) j) (guessAt self j) ⌝ }
     {
@@ -278,10 +313,19 @@ impl Batch {
         let origins = Origins::of(jobs, committed, j);
         let sources = origins.sources;
         let missing = unusable_any(sources, &self.phase);
-        let presumed = runs::presumed_values(job, cells);
-        let handed = self.forwarded_values(job, presumed, sources);
-        let bypassed = origins.bypassed;
-        let guess = new_run(handed, sources, bypassed);
+        let first = place_of(sources[0]);
+        let second = place_of(sources[1]);
+        let third = place_of(sources[2]);
+        let fourth = place_of(sources[3]);
+        let a = self.jobs[first];
+        let x = self.runs[first];
+        let b = self.jobs[second];
+        let y = self.runs[second];
+        let c = self.jobs[third];
+        let z = self.runs[third];
+        let d = self.jobs[fourth];
+        let w = self.runs[fourth];
+        let guess = guess_from(job, cells, origins, a, x, b, y, c, z, d, w);
         let on = self.speculating != 0;
         speculation_start(on, now, cells, ready, missing, guess)
     }

@@ -8,7 +8,7 @@ ghost use lib.ListN.{getD};
 ghost use Prim.Native.Nat.{_≤_, min};
 ghost use Rattle.engine.specs.Chooser.{pickBelow};
 ghost use Rattle.engine.specs.Form.{inForm};
-ghost use Rattle.engine.specs.Turn.{noStep, noSteps, isReport};
+ghost use Rattle.engine.specs.Turn.{noReport, isReport, noStep, noSteps};
 ghost use Rattle.engine.specs.TurnChange.{noJobRun, refusedTurn, changesFrom, turnChange};
 use crate::Batch;
 use crate::JobRun;
@@ -17,7 +17,10 @@ use crate::StepList;
 use crate::Taken;
 use crate::TurnChange;
 use crate::change::Standing;
+use crate::change::guess_from;
+use crate::change::place_of;
 use crate::change::plain_change;
+use crate::change::speculation_start;
 use crate::chooser::highest_of;
 use crate::chooser::lowest_of;
 use crate::chooser::pick_for;
@@ -29,6 +32,7 @@ use crate::opening::blank_run;
 use cellset::Cells;
 use cellset::survey::judged_rank;
 use cellset::survey::survey;
+use walk::origins::Origins;
 
 /// The number of a turn that brings no report.
 const NO_REPORT: u8 = 255;
@@ -81,14 +85,16 @@ fn at_most(limit: usize) -> usize
     16
 }
 
-/// Whether the step with the number is a report.
-fn is_report(number: u8) -> bool
-    ensures { λ r. ⌜ r ≡ isReport number ⌝ }
+/// Whether a turn may begin with the number: it is that of a report, or says that there is none.
+fn begins_turn(number: u8) -> bool
+    ensures { λ r. ⌜ r ≡ (eqb number noReport || isReport number) ⌝ }
 {
-    if number == 2 {
-        return true;
+    match number {
+        NO_REPORT => true,
+        2 => true,
+        3 => true,
+        _ => false,
     }
-    number == 3
 }
 
 /// Whether a step of the rank, on a job whose guess is in the phase, may change what is allowed on other jobs: a commit does, and
@@ -138,7 +144,7 @@ fn picked(
 }
 
 impl Batch {
-    /// The steps of a turn, after `stored` runs were noted for storing: at most `most`.
+    /// The steps of a turn, at most `most` of them, where `before` runs are noted for storing already.
     fn take_steps(mut self, noted: [JobRun; 17], before: usize, most: usize) -> TurnChange
         requires { ⌜ (inForm self ≡ true) × (eqb (self .sealed) 0 ≡ false) × (before ≤ 1) × (most ≤ 16) ⌝ }
         ensures { λ r. ⌜ r ≡ changesFrom self noSteps noted 0 before most ⌝ }
@@ -229,8 +235,25 @@ impl Batch {
             };
             let mut change = plain_change(number, job, held, was, present, nothing, true);
             if top == 1 {
-                let guess = self.speculation_change(p, was, false);
-                change = guess;
+                let jobs = self.jobs;
+                let states = self.committed;
+                let origins = Origins::of(jobs, states, p);
+                let sources = origins.sources;
+                let first = place_of(sources[0]);
+                let second = place_of(sources[1]);
+                let third = place_of(sources[2]);
+                let fourth = place_of(sources[3]);
+                let a = self.jobs[first];
+                let x = self.runs[first];
+                let b = self.jobs[second];
+                let y = self.runs[second];
+                let c = self.jobs[third];
+                let z = self.runs[third];
+                let d = self.jobs[fourth];
+                let w = self.runs[fourth];
+                let guess = guess_from(job, present, origins, a, x, b, y, c, z, d, w);
+                let started = speculation_start(on, was, present, false, false, guess);
+                change = started;
             }
             let cells = change.cells;
             let run = change.run;
@@ -280,5 +303,89 @@ impl Batch {
             running,
             phase,
         }
+    }
+
+    /// R64: what a turn changes, or with which number it is refused: a report with the number 2 or 3, or none with 255, and then the
+    /// steps that the chooser names, up to the limit, and 16 at most. Refused with 21 for another number, with 10 or 32, and as the
+    /// report is.
+    pub fn turn(mut self, number: u8, j: usize, report: Report, limit: usize) -> TurnChange
+        ensures { λ r. ⌜ r ≡ turnChange self number j report limit ⌝ }
+    {
+        if counts_out(
+            self.cell_count,
+            self.job_count,
+            self.sealed,
+            self.speculating,
+        ) {
+            return refused_turn(32);
+        }
+        let n = self.job_count as usize;
+        if 2 < top_of(&self.committed, n) {
+            return refused_turn(32);
+        }
+        if 1 < top_of(&self.running, n) {
+            return refused_turn(32);
+        }
+        if 3 < top_of(&self.phase, n) {
+            return refused_turn(32);
+        }
+        let mut i: usize = 0;
+        while i < n {
+            let job = self.jobs[i];
+            if admission::is_refused(job, self.cell_count) {
+                return refused_turn(32);
+            }
+            i += 1;
+        }
+        let mut k: usize = 0;
+        while k < n {
+            let run = self.runs[k];
+            if run_out(run, k) {
+                return refused_turn(32);
+            }
+            k += 1;
+        }
+        let begins = begins_turn(number);
+        if !begins {
+            return refused_turn(21);
+        }
+        if self.sealed == 0 {
+            return refused_turn(10);
+        }
+        let none = no_job_run();
+        let mut noted = [none; 17];
+        let mut first: usize = 0;
+        if number != NO_REPORT {
+            if n <= j {
+                return refused_turn(11);
+            }
+            let job = self.jobs[j];
+            let held = self.runs[j];
+            let present = self.cells;
+            let committed = self.committed[j];
+            let running = self.running[j];
+            let phase = self.phase[j];
+            let was = Standing {
+                committed,
+                running,
+                phase,
+            };
+            let change = plain_change(number, job, held, was, present, report, true);
+            if change.refusal != 0 {
+                return refused_turn(change.refusal);
+            }
+            let cells = change.cells;
+            let run = change.run;
+            let now = change.now;
+            self.cells = cells;
+            self.runs[j] = run;
+            self.committed[j] = now.committed;
+            self.running[j] = now.running;
+            self.phase[j] = now.phase;
+            noted[0] = JobRun { job: j as u8, run };
+            first = 1;
+        }
+        let most = at_most(limit);
+        self.take_steps(noted, first, most)
     }
 }
