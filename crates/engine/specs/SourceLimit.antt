@@ -43,12 +43,11 @@ pub missing-is : (b : Batch) (j : ℕ) (sources : List ℕ) → sources ≡ sour
 unfolding anyBelow
 missing-is b j sources e = rw e
 
--- The guess made of the places that the sources say is the guess that is started.
-pub guess-is : (b : Batch) (j : ℕ) (origins : Origins) → origins ≡ originsOf (b .jobs) (b .committed) j
-    → guessFrom (jobAt (b .jobs) j) (b .cells) origins
-    (jobAt (b .jobs) (getD (origins .sources) 0 0 - 1)) (runAt b (getD (origins .sources) 0 0 - 1))
-    (jobAt (b .jobs) (getD (origins .sources) 1 0 - 1)) (runAt b (getD (origins .sources) 1 0 - 1))
-    (jobAt (b .jobs) (getD (origins .sources) 2 0 - 1)) (runAt b (getD (origins .sources) 2 0 - 1))
-    (jobAt (b .jobs) (getD (origins .sources) 3 0 - 1)) (runAt b (getD (origins .sources) 3 0 - 1))
+-- The guess made of the jobs that stand in the sources' places is the guess that is started.
+pub guess-is : (b : Batch) (j : ℕ) (origins : Origins) → origins ≡ originsOf (b .jobs) (b .committed) j → {i k l m : ℕ}
+    → i ≡ getD (origins .sources) 0 0 - 1 → k ≡ getD (origins .sources) 1 0 - 1 → l ≡ getD (origins .sources) 2 0 - 1
+    → m ≡ getD (origins .sources) 3 0 - 1
+    → guessFrom (jobAt (b .jobs) j) (b .cells) origins (jobAt (b .jobs) i) (runAt b i) (jobAt (b .jobs) k) (runAt b k)
+    (jobAt (b .jobs) l) (runAt b l) (jobAt (b .jobs) m) (runAt b m)
     ≡ guessAt b j
-guess-is b j origins e = rw e
+guess-is b j origins e first second third fourth = rw (first, second, third, fourth, e)

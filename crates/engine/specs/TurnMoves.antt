@@ -1,5 +1,5 @@
 -- The moves of a turn's loop: a guess is judged, a step is taken, or the turn ends. What holds before each holds after it.
-use Prim.Native.Nat.{ℕ, zero, suc, _+_, _-_, _<_, _≤_}
+use Prim.Native.Nat.{ℕ, zero, suc, _+_, _*_, _-_, _<_, _≤_}
 use native.Mathlib.Omega.{arith}
 use native.Mathlib.Numerals.{add-one}
 use mathlib.Core.Bool.{Bool, true, false, cond, not, _&&_, _||_}
@@ -8,7 +8,9 @@ use mathlib.Core.Path.{_≡_, refl, sym, ap, _∙_, subst}
 use lib.Dec.{eqb, ltb}
 use lib.ListN.{length, getD, set, drop, length-set}
 use borrow.Author.Tests.{eqb-true, eqb-false, eq-eqb, ne-eqb, ltb-true, ltb-false}
-use Rattle.laws.specs.Fold.{column}
+use lib.Seq.{getD-set-same, getD-set-other}
+use Rattle.laws.specs.Fold.{column, countBelow}
+use Rattle.laws.specs.FoldLaws.{count-same}
 use Rattle.laws.specs.SearchLaws.{if-or, clash}
 use Rattle.dependence.specs.Job.{jobAt}
 use Rattle.passes.specs.Chain.{chainLengthAt}
@@ -32,7 +34,7 @@ use Rattle.engine.specs.ChangeLaws.{step-is-change, change-made}
 use Rattle.engine.specs.InsertAllPass.{Sized}
 use Rattle.engine.specs.Chooser.{pickBelow, named, chosen}
 use Rattle.engine.specs.ChooserPass.{Columned, openAt, columned-later}
-use Rattle.engine.specs.Ranks.{judgedAt, Ranked, survey-ranked, judge-ranked, stepOf, top-reaches, top-met, rank-is, choice-none, choice-top, lowestBelow, highestBelow, lowest-le, lowest-met, pick-is, best, best-in, lowest-in, sole-is}
+use Rattle.engine.specs.Ranks.{judgedAt, Ranked, survey-ranked, judge-ranked, stepOf, top-reaches, top-met, top-limit, rank-is, choice-none, choice-top, lowestBelow, highestBelow, lowest-le, lowest-met, pick-is, best, best-in, lowest-in, sole-is}
 use Rattle.engine.specs.Turn.{blankReport, nextStep, nextTaken}
 use Rattle.engine.specs.TurnChange.{nextChange, nextRun, changesAt, changesFrom}
 use Rattle.cellset.specs.AllowedLaws.{allowedRank}
@@ -53,6 +55,33 @@ pub record Underway (goal : TurnChange) (most n : ℕ) (on : Bool) (names writte
   pub ranked : Ranked b ranks
   pub chained : drop known chains ≡ drop known (column 128 n (chainLengthAt (b .jobs) n) 0)
   pub left : goal ≡ changesFrom b taken changed count stored (most - count)
+
+-- What falls with each move: first the steps left, and then the guesses to be judged.
+
+pub steps-fall : (most count n x y : ℕ) → count < most → n ≤ 128 → y ≤ n → (most - (count + 1)) * 129 + y < (most - count) * 129 + x
+steps-fall most count n x y h few small = omega arith
+
+count-falls : (n j : ℕ) (p q : ℕ → Bool) → j < n → p j ≡ true → q j ≡ false → ((i : ℕ) → (i ≡ j → ⊥) → q i ≡ p i)
+    → countBelow n q < countBelow n p
+unfolding countBelow
+count-falls zero j p q h t f same = absurd (omega arith)
+count-falls (suc n) j p q h t f same =
+    if-or (eqb j n)
+    (λ e.
+    let here = eqb-true j n e in
+    let before : countBelow n q ≡ countBelow n p = count-same n q p (λ i l. same i (λ e. absurd (omega (arith, e, l, here)))) in
+    rw (rw here at t, rw here at f) (omega (arith, before)))
+    (λ e.
+    let other = eqb-false j n e in
+    let before = count-falls n j p q (omega (arith, other)) t f same in
+    rw (same n (λ e. other (sym e))) (omega (arith, before)))
+
+pub guesses-fall : (n : ℕ) (ranks : List ℕ) (j rank : ℕ) → j < n → j < length ranks → getD ranks j 0 ≡ 4 → rank ≤ 3
+    → countBelow n (λ i. eqb (getD (set ranks j rank) i 0) 4) < countBelow n (λ i. eqb (getD ranks i 0) 4)
+guesses-fall n ranks j rank h l four few =
+    count-falls n j (λ i. eqb (getD ranks i 0) 4) (λ i. eqb (getD (set ranks j rank) i 0) 4) h (rw four)
+    (rw (getD-set-same ranks j rank 0 l) (ne-eqb rank 4 (λ q. absurd (omega (arith, q, few)))))
+    (λ i other. ap (λ (r : ℕ). eqb r 4) (getD-set-other ranks j i rank 0 other))
 
 -- The end: no step is left to be taken, or none is named.
 
@@ -126,6 +155,9 @@ module _ {goal : TurnChange} {most n : ℕ} {on : Bool} {names written sure back
 
   all : Columned b (b .«job_count») names written sure back arities
   all = subst (λ (m : ℕ). Columned b m names written sure back arities) (g .held) (g .columned)
+
+  pub top-few : top ≤ 4
+  top-few = rw is-top (top-limit n 4 ranks (λ j h. g .ranked .few j (omega (arith, h, g .held))))
 
   pub stopped : top ≡ 0 → goal ≡ changesAt b taken changed count stored
   stopped e =

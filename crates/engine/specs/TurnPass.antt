@@ -174,7 +174,7 @@ module _ (c : Batch) (p : ℕ) where
         no-commit (rw out),
         waiting-own unready,
         no-guess (committedAt c p)
-        (rw (out, or-true (not (eqb (getD (c .running) p 0) 0)) true refl) (or-true (committedAt c p) true refl)) refl,
+            (rw (out, or-true (not (eqb (getD (c .running) p 0) 0)) true refl) (or-true (committedAt c p) true refl)) refl,
       )
 
 -- What it says of the job that a step of the chooser's is accepted on it, and that the change is made as the code makes it: for

@@ -254,14 +254,7 @@ pub(crate) fn place_of(source: u8) -> usize
 }
 
 /// What the guess is handed at a place: forwarded from the source's report, or what is presumed there.
-fn forwarded(
-    job: Job,
-    place: usize,
-    source: u8,
-    writer: Job,
-    run: Run,
-    presumed: [i32; 4],
-) -> i32
+fn forwarded(job: Job, place: usize, source: u8, writer: Job, run: Run, presumed: [i32; 4]) -> i32
     requires { ⌜ place < 4 ⌝ }
     ensures { λ r. ⌜ r ≡ forwardedAt job place source writer run presumed ⌝ }
 {

@@ -144,10 +144,10 @@ fn picked(
 }
 
 impl Batch {
-    /// The steps of a turn, at most `most` of them, where `before` runs are noted for storing already.
-    fn take_steps(mut self, noted: [JobRun; 17], before: usize, most: usize) -> TurnChange
-        requires { ⌜ (inForm self ≡ true) × (eqb (self .sealed) 0 ≡ false) × (before ≤ 1) × (most ≤ 16) ⌝ }
-        ensures { λ r. ⌜ r ≡ changesFrom self noSteps noted 0 before most ⌝ }
+    /// The steps of a turn, at most `most` of them, where `start` runs are noted for storing already.
+    fn take_steps(mut self, noted: [JobRun; 17], start: usize, most: usize) -> TurnChange
+        requires { ⌜ (inForm self ≡ true) × (eqb (self .sealed) 0 ≡ false) × (start ≤ 1) × (most ≤ 16) ⌝ }
+        ensures { λ r. ⌜ r ≡ changesFrom self noSteps noted 0 start most ⌝ }
     {
         let n = self.job_count as usize;
         let mut names = [0u64; 128];
@@ -188,7 +188,7 @@ impl Batch {
         let mut taken = [none; 16];
         let mut changed = noted;
         let mut count: usize = 0;
-        let mut stored = before;
+        let mut stored = start;
         let mut chains = [0u8; 128];
         let mut known = n;
         while count < most {
@@ -202,7 +202,8 @@ impl Batch {
                 let job = self.jobs[at];
                 let run = self.runs[at];
                 let handed = run.handed;
-                let stale = runs::stale::is_stale(job, handed, &self.cells);
+                let heights = self.cells;
+                let stale = runs::is_stale(job, handed, heights);
                 let rank = judged_rank(self.running[at], self.phase[at], stale);
                 ranks[at] = rank;
                 continue;

@@ -1,7 +1,11 @@
 -- `Batch::speculation_change` meets its contract: where the values come from, and the run that is handed them.
 use native.Mathlib.Omega.{arith}
-use mathlib.Core.Path.{ap}
+use mathlib.Core.Bool.{Bool, not}
+use mathlib.Core.Path.{ap, _∙_}
+use lib.Dec.{eqb}
 use Rattle.walk.specs.declared.origins.Origins.{Origins}
+use Rattle.engine.specs.declared.Run.{Run}
+use Rattle.engine.specs.Change.{guessAt, speculationStart}
 use Rattle.engine.specs.SourceLimit.{sources-held, missing-is, guess-is}
 use borrow.Author.Needs.{needs}
 use Rattle.engine.proofs.Batch.speculation_change.Statement.{statement}
@@ -110,7 +114,25 @@ speculation-start-requires : tie.Need-speculation-start-requires
 speculation-start-requires c κs = search needs
 
 returns : tie.Need-returns
-returns c = ?
+returns c =
+    let guess = c .before in
+    let fourth = guess .before .before .before .before .before .before .before .before .before in
+    let third = fourth .before in
+    let second = third .before in
+    let first = second .before in
+    let missing = first .before in
+    let from = missing .before .before .before .before in
+    let a = from .before .before .before .before .before .args in
+    let sources = ap (λ (x : Origins). x .sources) (from .of .ensures) in
+    let started =
+    guess .guess-from .ensures
+    ∙ guess-is (a .t1) (a .j) (from .of .result) (from .of .ensures) (first .place-of .ensures .0) (second .place-of2 .ensures .0)
+    (third .place-of3 .ensures .0) (fourth .place-of4 .ensures .0) in
+    let lost = missing .unusable-any .ensures ∙ missing-is (a .t1) (a .j) (from .of .result .sources) sources in
+    let on = not (eqb (a .t1 .speculating) 0) in
+    c .speculation-start .ensures
+    ∙ ap (λ (run : Run). speculationStart on (a .now) (a .t1 .cells) (a .ready) (missing .unusable-any .result) run) started
+    ∙ ap (λ (gone : Bool). speculationStart on (a .now) (a .t1 .cells) (a .ready) gone (guessAt (a .t1) (a .j))) lost
 
 pub speculation-change-spec : {M : Type 1} → statement M
 speculation-change-spec =
