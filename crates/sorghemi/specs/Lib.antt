@@ -1,4 +1,5 @@
 pub mod Step
+pub mod Turn
 pub mod InsertAll
 pub mod Plan
 pub mod PlanLaws

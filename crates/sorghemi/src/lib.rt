@@ -9,6 +9,7 @@ mod reading;
 mod result;
 mod step;
 mod tallies;
+mod turn;
 
 /// What a step on a lent batch answers: 0 or the number of its refusal, and the values handed to a run, 0 each where none is started.
 #[repr(C)]
@@ -36,4 +37,11 @@ pub struct PlanAnswer {
 pub struct ShareAnswer {
     pub present: bool,
     pub thousandths: u64,
+}
+
+/// What a turn on a lent batch answers: 0 or the number of its refusal, and how many steps it took.
+#[repr(C)]
+pub struct Turned {
+    pub refusal: u8,
+    pub count: u8,
 }
