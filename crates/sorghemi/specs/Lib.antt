@@ -6,3 +6,4 @@ pub mod PlanLaws
 pub mod Layout
 pub mod Share
 pub mod Behind
+pub mod Stores
