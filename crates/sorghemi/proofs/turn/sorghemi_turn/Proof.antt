@@ -55,7 +55,8 @@ use denote.Triple.Walked.{says, Stays, stay-ref, stay-none, walkOf, AllGo, goes-
 use denote.Exit.{yes}
 use Rattle.engine.specs.Turn as Engine
 use Rattle.engine.specs.TurnChange.{turnChange, turnMade, runsStored, noJobRun}
-use Rattle.engine.specs.TurnLaws.{turn-stored, turn-few, turn-places}
+use Rattle.engine.specs.TurnLaws.{turn-stored}
+use Rattle.engine.specs.TurnPlaces.{turn-few, turn-places}
 use Rattle.engine.specs.declared.Batch.{Batch}
 use Rattle.engine.specs.declared.Report.{Report}
 use Rattle.engine.specs.declared.StepList.{StepList}
