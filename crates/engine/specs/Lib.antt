@@ -27,6 +27,7 @@ pub mod TurnChange
 pub mod TurnForm
 pub mod TurnCalls
 pub mod TurnLaws
+pub mod TurnPlaces
 pub mod TurnPass
 pub mod TurnMoves
 pub mod TurnStart
