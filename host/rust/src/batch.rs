@@ -280,7 +280,8 @@ impl Batch {
     }
 
     /// The step worth taking next: a settling, else an own run, else a guess. Of the jobs that may take it the one with the longest
-    /// [chain](Choice::chain), of several such the one with the fewest accesses, and of several such again the lowest.
+    /// [chain](Choice::chain), of several such the one with the fewest accesses, and of several such again the lowest. It is named and
+    /// not taken; [`turn`](Batch::turn) takes such steps.
     ///
     /// # Errors
     ///
