@@ -12,13 +12,16 @@ mod drive;
 mod engine;
 mod proved;
 mod stack;
+mod turns;
 
 use std::hint::black_box;
 
 use batch::{Batch, JOBS};
-use drive::{drive, prepare, Unwatched, Watch, CALLS, CHOOSE, INSERT, SEAL};
+use drive::{drive, prepare, Unwatched, Watch, CALLS, CHOOSE, INSERT, INSERT_ALL, SEAL, TURN};
 use engine::Engine;
 use proved::Lent;
+use sorghemi::MOST_STEPS;
+use turns::{drive_by_turns, prepare_by_list};
 
 /// No call of an engine: the batch from its opening to its last commit.
 const WHOLE: usize = CALLS;
@@ -28,7 +31,7 @@ type Way = fn(&Batch, &mut Mark) -> Vec<i32>;
 
 /// What is counted: its name, the number of its calls as a watch sees them, and the
 /// way of driving that makes them.
-const COUNTED: [(&str, usize, Way); 9] = [
+const COUNTED: [(&str, usize, Way); 11] = [
     ("insert", INSERT, call_by_call),
     ("seal", SEAL, call_by_call),
     ("choose", CHOOSE, call_by_call),
@@ -37,6 +40,8 @@ const COUNTED: [(&str, usize, Way); 9] = [
     ("step 2", 2, call_by_call),
     ("step 3", 3, call_by_call),
     ("step 4", 4, call_by_call),
+    ("insert all", INSERT_ALL, by_turns),
+    ("turn", TURN, by_turns),
     ("batch", WHOLE, whole),
 ];
 
@@ -82,6 +87,13 @@ fn cells(engine: &impl Engine, batch: &Batch) -> Vec<i32> {
 
 fn call_by_call(batch: &Batch, mark: &mut Mark) -> Vec<i32> {
     cells(&driven(batch, mark), batch)
+}
+
+/// As many steps in a turn as there may be.
+fn by_turns(batch: &Batch, mark: &mut Mark) -> Vec<i32> {
+    let mut engine = prepare_by_list(batch, mark);
+    drive_by_turns(&mut engine, batch, MOST_STEPS, mark);
+    cells(&engine, batch)
 }
 
 fn whole(batch: &Batch, mark: &mut Mark) -> Vec<i32> {

@@ -16,14 +16,18 @@ mod second;
 mod stack;
 mod subject;
 mod table;
+#[cfg(feature = "proved")]
+mod turns;
+#[cfg(feature = "proved")]
+mod ways;
 
 use std::time::Duration;
 
 use batch::{Batch, JOBS};
-use drive::{Drive, CALLS, CHOOSE, INSERT, SEAL};
+use drive::{Drive, CHOOSE, INSERT, INSERT_ALL, SEAL, TURN};
 use measure::{nanoseconds, samples, Clock, Figure};
 use stack::Stack;
-use subject::{subjects, Subject};
+use subject::{subjects, ways_with_fewer_calls, Subject, Way};
 
 const SIZES: [usize; 4] = [16, 32, 64, 128];
 
@@ -42,7 +46,7 @@ fn main() {
     }
     if let Some(program) = arguments.get(1) {
         let batch = Batch::of(JOBS);
-        let drive = (subjects()[0].driven)(&batch);
+        let drive = (subjects()[0].way.driven)(&batch);
         plans::print(program, &batch, &drive.steps);
     }
 }
@@ -88,19 +92,26 @@ fn outside_rows(path: &str) -> Vec<Row> {
 fn print_tables(outside: Vec<Row>) {
     let batch = Batch::of(JOBS);
     let subjects = subjects();
-    let expected = (subjects[0].driven)(&batch);
-    for subject in &subjects {
-        assert!(subject.is_right(&batch, &expected), "{}", subject.name);
+    let fewer_calls = ways_with_fewer_calls();
+    let ways: Vec<Way> = subjects
+        .iter()
+        .map(|subject| subject.way)
+        .chain(fewer_calls.clone())
+        .collect();
+    let expected = (ways[0].driven)(&batch);
+    for way in &ways {
+        assert!(way.is_right(&batch, &expected), "{}", way.name);
     }
     print_batch(&batch, &expected);
-    print_costs(&batch, &subjects, &expected, outside);
+    print_costs(&batch, &ways, &subjects, &expected, outside);
     print_growth(&subjects);
+    print_growth_of_fewer_calls(&fewer_calls);
     // A stack of its own, large enough to be painted.
     let painter = std::thread::Builder::new().stack_size(stack::THREAD_BYTES);
     let painting = painter.spawn(move || {
         print_stack(&batch, &subjects);
         #[cfg(feature = "proved")]
-        print_other_stacks(&batch, &expected);
+        print_other_stacks(&batch, &expected, &fewer_calls);
     });
     painting.expect("a thread").join().expect("the stack table");
 }
@@ -114,7 +125,7 @@ fn print_batch(batch: &Batch, drive: &Drive) {
     println!(
         "  steps accepted {}, chooses {}",
         drive.steps.len(),
-        drive.chooses
+        drive.chosen.map_or(0, |chosen| chosen.times)
     );
     let counts: Vec<String> = (0..5)
         .map(|number| format!("{number}: {}", drive.steps_of(number)))
@@ -130,29 +141,33 @@ fn print_batch(batch: &Batch, drive: &Drive) {
 
 /// Nanoseconds for a job: the batch opened, all jobs inserted, sealed, and
 /// driven or replayed to its end. First the driven rows, then the replayed ones.
-fn sample_engines(batch: &Batch, subjects: &[Subject], drive: &Drive) -> Vec<Row> {
+fn sample_engines(batch: &Batch, ways: &[Way], subjects: &[Subject], drive: &Drive) -> Vec<Row> {
     let jobs = batch.jobs.len() as f64;
-    let mut driven = vec![Vec::new(); subjects.len()];
+    let mut driven = vec![Vec::new(); ways.len()];
     let mut replayed = vec![Vec::new(); subjects.len()];
     for _ in 0..ROUNDS {
-        for (place, subject) in subjects.iter().enumerate() {
-            driven[place].extend(samples(TIME_FOR_A_TURN, || {
-                nanoseconds(|| drop((subject.driven)(batch))) / jobs
+        for (way, driven) in ways.iter().zip(&mut driven) {
+            driven.extend(samples(TIME_FOR_A_TURN, || {
+                nanoseconds(|| drop((way.driven)(batch))) / jobs
             }));
-            replayed[place].extend(samples(TIME_FOR_A_TURN, || {
+        }
+        for (subject, replayed) in subjects.iter().zip(&mut replayed) {
+            replayed.extend(samples(TIME_FOR_A_TURN, || {
                 nanoseconds(|| (subject.replayed)(batch, &drive.steps)) / jobs
             }));
         }
     }
-    let rows = |samples: Vec<Vec<f64>>, replayed: bool| {
-        let rows = subjects.iter().zip(samples);
-        rows.map(move |(subject, samples)| Row {
-            name: subject.name.to_string() + if replayed { ", replayed" } else { "" },
-            figure: Figure::of(&samples),
-            replayed,
-        })
+    let row = |way: &Way, samples: &[f64], replayed: bool| Row {
+        name: way.name.to_string() + if replayed { ", replayed" } else { "" },
+        figure: Figure::of(samples),
+        replayed,
     };
-    rows(driven, false).chain(rows(replayed, true)).collect()
+    let driven = ways.iter().zip(&driven);
+    let replayed = subjects.iter().zip(&replayed);
+    driven
+        .map(|(way, samples)| row(way, samples, false))
+        .chain(replayed.map(|(subject, samples)| row(&subject.way, samples, true)))
+        .collect()
 }
 
 /// The lowest median and the lowest best of the rows that such names begin.
@@ -165,8 +180,14 @@ fn fastest(rows: &[Row], begin: &str) -> Option<Figure> {
     })
 }
 
-fn print_costs(batch: &Batch, subjects: &[Subject], drive: &Drive, outside: Vec<Row>) {
-    let mut rows = sample_engines(batch, subjects, drive);
+fn print_costs(
+    batch: &Batch,
+    ways: &[Way],
+    subjects: &[Subject],
+    drive: &Drive,
+    outside: Vec<Row>,
+) {
+    let mut rows = sample_engines(batch, ways, subjects, drive);
     rows.extend(outside);
     // The plain engine is the first of the driven and of the replayed rows.
     let plain = |replayed: bool| {
@@ -192,49 +213,47 @@ fn print_costs(batch: &Batch, subjects: &[Subject], drive: &Drive, outside: Vec<
     table::print(&header, &rows.iter().map(line).collect::<Vec<_>>());
 }
 
-/// The calls in the order of the columns.
-const COLUMNS: [usize; CALLS] = [INSERT, SEAL, CHOOSE, 0, 1, 2, 3, 4];
-const CALL_NAMES: [&str; CALLS] = [
+/// The calls that every engine has, in the order of the columns.
+const COLUMNS: [usize; 8] = [INSERT, SEAL, CHOOSE, 0, 1, 2, 3, 4];
+const CALL_NAMES: [&str; 8] = [
     "insert", "seal", "choose", "step 0", "step 1", "step 2", "step 3", "step 4",
 ];
 
-type CallTimes = [Option<f64>; CALLS];
-
-/// For each size and sort of call the median over all repetitions of the mean
-/// time of one call.
-fn call_times(subject: &Subject) -> [CallTimes; SIZES.len()] {
+/// For each size all repetitions, every call of the driven batch clocked.
+fn clocks(way: &Way) -> [Vec<Clock>; SIZES.len()] {
     let batches = SIZES.map(Batch::of);
     let mut clocks: [Vec<Clock>; SIZES.len()] = Default::default();
     for _ in 0..GROWTH_ROUNDS {
         for (batch, clocks) in batches.iter().zip(&mut clocks) {
             samples(TIME_FOR_A_TURN, || {
                 let mut clock = Clock::new();
-                (subject.clocked)(batch, &mut clock);
+                (way.clocked)(batch, &mut clock);
                 clocks.push(clock);
                 0.0
             });
         }
     }
-    clocks.map(|clocks| {
-        COLUMNS.map(|which| {
-            let means: Option<Vec<f64>> = clocks.iter().map(|clock| clock.mean(which)).collect();
-            means.map(|means| Figure::of(&means).median)
-        })
-    })
+    clocks
+}
+
+/// The median over all repetitions of the mean time of one call.
+fn call_time(clocks: &[Clock], which: usize) -> Option<f64> {
+    let means: Option<Vec<f64>> = clocks.iter().map(|clock| clock.mean(which)).collect();
+    means.map(|means| Figure::of(&means).median)
 }
 
 fn print_growth(subjects: &[Subject]) {
     println!("\nOne call, mean nanoseconds over the driven batch, by the number of jobs");
     println!("(each call clocked by itself, the clock's own time taken off)");
     let mut lines = Vec::new();
-    for subject in subjects {
-        let times = call_times(subject);
+    for Subject { way, .. } in subjects {
+        let times = clocks(way).map(|clocks| COLUMNS.map(|which| call_time(&clocks, which)));
         for (jobs, times) in SIZES.iter().zip(&times) {
-            let mut line = vec![subject.name.to_string(), jobs.to_string()];
+            let mut line = vec![way.name.to_string(), jobs.to_string()];
             line.extend(times.map(table::figure));
             lines.push(line);
         }
-        let mut growth = vec![subject.name.to_string(), "growth".to_string()];
+        let mut growth = vec![way.name.to_string(), "growth".to_string()];
         let first_and_last = times[0].iter().zip(&times[SIZES.len() - 1]);
         growth.extend(first_and_last.map(|(&first, &last)| table::ratio(last, first)));
         lines.push(growth);
@@ -246,15 +265,44 @@ fn print_growth(subjects: &[Subject]) {
     println!("(growth: the last size's figure to the first's; the jobs grow by {times})");
 }
 
+/// The same of a list of jobs and of turns, one line for each way that has them.
+fn print_growth_of_fewer_calls(ways: &[Way]) {
+    let mut lines = Vec::new();
+    for way in ways {
+        let clocks = clocks(way);
+        let last = &clocks[SIZES.len() - 1][0];
+        let which = if last.calls(TURN) > 0 {
+            TURN
+        } else {
+            INSERT_ALL
+        };
+        let mut line = vec![way.name.to_string(), last.calls(which).to_string()];
+        let times = clocks.each_ref().map(|clocks| call_time(clocks, which));
+        line.extend(times.map(table::figure));
+        line.push(table::ratio(times[SIZES.len() - 1], times[0]));
+        lines.push(line);
+    }
+    if lines.is_empty() {
+        return;
+    }
+    println!("\nThe same of a whole list of jobs, and of a turn");
+    println!("(calls: how many there are with {JOBS} jobs)");
+    let sizes = SIZES.map(|jobs| jobs.to_string());
+    let mut header = vec!["", "calls"];
+    header.extend(sizes.iter().map(String::as_str));
+    header.push("growth");
+    table::print(&header, &lines);
+}
+
 fn print_stack(batch: &Batch, subjects: &[Subject]) {
     println!("\nBytes: the record, and the stack that the deepest call of each sort touches");
     let mut lines = Vec::new();
     for subject in subjects {
         let mut stack = Stack::new();
-        (subject.stacked)(batch, &mut stack);
+        (subject.way.stacked)(batch, &mut stack);
         let record = subject.record_bytes;
         let record = record.map_or("on the heap".into(), |bytes| bytes.to_string());
-        let mut line = vec![subject.name.to_string(), record];
+        let mut line = vec![subject.way.name.to_string(), record];
         line.extend(COLUMNS.map(|which| stack.deepest[which].to_string()));
         lines.push(line);
     }
@@ -263,12 +311,17 @@ fn print_stack(batch: &Batch, subjects: &[Subject]) {
     table::print(&header, &lines);
 }
 
+/// That of a turn is the deepest of all its limits.
 #[cfg(feature = "proved")]
-fn print_other_stacks(batch: &Batch, drive: &Drive) {
+fn print_other_stacks(batch: &Batch, drive: &Drive, ways: &[Way]) {
     println!(
         "\nThe stack that the proved library's other calls touch; answer: the answer to a plan"
     );
+    let mut stack = Stack::new();
+    ways.iter().for_each(|way| (way.stacked)(batch, &mut stack));
     let plan = plans::plan(batch, &drive.steps, plans::MOST_BYTES);
-    let (names, bytes): (Vec<_>, Vec<_>) = proved::other_stacks(batch, &plan).into_iter().unzip();
+    let mut calls = vec![("turn", stack.deepest[TURN])];
+    calls.extend(proved::other_stacks(batch, &plan));
+    let (names, bytes): (Vec<_>, Vec<_>) = calls.into_iter().unzip();
     table::print(&names, &[bytes.iter().map(usize::to_string).collect()]);
 }

@@ -65,6 +65,10 @@ impl Clock {
         }
     }
 
+    pub fn calls(&self, which: usize) -> u32 {
+        self.calls[which]
+    }
+
     pub fn cost(&self) -> f64 {
         let calls: u32 = self.calls.iter().sum();
         self.spent_on_nothing.as_nanos() as f64 / f64::from(calls)

@@ -1,17 +1,19 @@
 //! The proved engine, by the functions of its archive: with the record lent to
 //! the steps, and by value. Inserting and sealing are by value in both, and
-//! choosing and asking take a copy of the record.
+//! choosing and asking take a copy of the record. A list of jobs and a turn are
+//! there in the lent form alone.
 
 use sorghemi::raw::{
     sorghemi_answer_plan, sorghemi_ask_batch, sorghemi_ask_cell, sorghemi_ask_job,
     sorghemi_ask_speculation, sorghemi_ask_tally, sorghemi_choose, sorghemi_copy_out,
     sorghemi_insert, sorghemi_insert_all, sorghemi_kept_share, sorghemi_open, sorghemi_result,
-    sorghemi_seal, sorghemi_step, sorghemi_step_by_value, sorghemi_total, Access, Answer, JobList,
+    sorghemi_seal, sorghemi_step, sorghemi_step_by_value, sorghemi_total, sorghemi_turn, Access,
+    Answer, JobList, StepList, Turned, NO_REPORT,
 };
 use sorghemi::{Record, Report, Tally};
 
 use crate::batch::{Batch, Job};
-use crate::drive::{prepare, Unwatched};
+use crate::drive::{prepare, Step, Unwatched};
 use crate::engine::Engine;
 use crate::stack;
 
@@ -26,6 +28,18 @@ fn read(job: &Job) -> sorghemi::Job {
         parameter: job.parameter,
         predicted: job.predicted,
     }
+}
+
+/// At most 128 jobs as a list. The places after them are never looked at.
+fn list_of(jobs: &[Job]) -> JobList {
+    let mut list = JobList {
+        count: jobs.len(),
+        jobs: [read(&Job::default()); 128],
+    };
+    for (place, job) in list.jobs.iter_mut().zip(jobs) {
+        *place = read(job);
+    }
+    list
 }
 
 /// What the job's kind gives; none for a kind that is not 1 to 6.
@@ -47,10 +61,7 @@ pub fn other_stacks(batch: &Batch, plan: &str) -> [(&'static str, usize); 12] {
     let (answer, size) = (buffer.as_mut_ptr(), buffer.len());
     // SAFETY: the pointers are valid for their lengths.
     let open = stack::of(|| unsafe { sorghemi_open(heights.as_ptr(), places) });
-    let list = JobList {
-        count: batch.jobs.len(),
-        jobs: std::array::from_fn(|at| read(&batch.jobs[at % batch.jobs.len()])),
-    };
+    let list = list_of(&batch.jobs);
     let Lent(mut filled) = Lent::open(heights);
     let insert_all = stack::of(|| unsafe { sorghemi_insert_all(&mut filled, &list) });
     let ask_cell = stack::of(|| unsafe { sorghemi_ask_cell(record, 0) });
@@ -85,6 +96,26 @@ impl Lent {
     fn taken(&mut self, answer: Answer) -> u8 {
         self.0 = answer.batch;
         answer.refusal
+    }
+
+    /// Inserts the jobs as one list, which is written down first.
+    pub fn insert_all(&mut self, jobs: &[Job]) -> u8 {
+        let list = list_of(jobs);
+        // SAFETY: the record is this engine's own, and the list this call's.
+        unsafe { sorghemi_insert_all(&mut self.0, &list) }.refusal
+    }
+
+    /// Makes the report, if any, and then at most so many steps, which come to
+    /// stand in the list.
+    pub fn turn(&mut self, report: Option<Step>, limit: usize, steps: &mut StepList) -> Turned {
+        let number = report.map_or(NO_REPORT, |step| step.number);
+        let step = report.unwrap_or(Step::naming(number, 0));
+        let report = Report {
+            values: step.values,
+            wrote: step.wrote,
+        };
+        // SAFETY: the record is this engine's own, and the list its caller's.
+        unsafe { sorghemi_turn(&mut self.0, number, step.job as usize, report, limit, steps) }
     }
 }
 

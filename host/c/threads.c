@@ -1,5 +1,5 @@
-/* A batch with several workers: one lock round the record, and threads that take the jobs that the chooser names. While they
- * are at it, corrections come in.
+/* A batch with several workers: one lock round the record, and threads that take turns: each reports what it has done, and
+ * takes what is to be done next, for itself and for those who are free. While they are at it, corrections come in.
  *
  *     gcc -pthread host/c/threads.c target/staticlib/libsorghemi.a -o threads && ./threads 8
  *
@@ -23,10 +23,23 @@ enum {
 /* What the threads share. */
 typedef struct {
     pthread_mutex_t lock;
-    pthread_cond_t changed; /* told whenever a job was reported, was settled or came in, and when the line is closed */
+    pthread_cond_t changed; /* told when a turn has reported or taken a step, a job has come in, and the line is closed */
     sorghemi_batch batch;
+    sorghemi_taken waiting[MOST_WORKERS]; /* runs that turns have started and that no worker has taken up yet, in a ring */
+    size_t first;                         /* where the oldest of them stands */
+    size_t count;                         /* how many there are */
+    size_t free; /* how many workers have no run; they are never fewer than the runs that wait, so the ring has room */
     bool line_open; /* whether more jobs may come in; while they may, a finished batch is no reason to leave */
 } morning;
+
+/* What a worker brings to its turn: the number of its report, or SORGHEMI_NO_REPORT, its job and the report itself. */
+typedef struct {
+    uint8_t number;
+    size_t job;
+    sorghemi_report report;
+} finding;
+
+static const finding nothing = {.number = SORGHEMI_NO_REPORT};
 
 static void expect_accepted(const char *call, uint8_t refusal)
 {
@@ -54,69 +67,78 @@ static bool is_of_use(morning *today, size_t job)
     return answer.validity == SORGHEMI_VALIDITY_UNDECIDED || answer.validity == SORGHEMI_VALIDITY_VALID;
 }
 
-/* The job's check of the values that were handed out. False for a guess that is given up. */
-static bool check(morning *today, sorghemi_choice choice, sorghemi_job job, const int32_t *handed, sorghemi_report *report)
+/* The check of the run's job, and the report on it; none of a guess that is given up. */
+static finding check(morning *today, sorghemi_taken run, sorghemi_job job)
 {
+    bool guess = run.step == SORGHEMI_STEP_START_SPECULATION;
     for (int part = 0; part < PARTS; part++) {
-        if (choice.step == SORGHEMI_STEP_START_SPECULATION && !is_of_use(today, choice.job)) {
-            return false;
+        if (guess && !is_of_use(today, run.job)) {
+            return nothing;
         }
         take_a_while(1);
     }
-    sorghemi_outcome outcome = sorghemi_result(job.kind, job.parameter, handed);
+    sorghemi_outcome outcome = sorghemi_result(job.kind, job.parameter, run.handed);
     expect_accepted("result", outcome.refusal);
+    finding found = {.number = guess ? SORGHEMI_STEP_REPORT_SPECULATION : SORGHEMI_STEP_REPORT_OWN, .job = run.job};
     for (size_t place = 0; place < 4; place++) {
-        report->values[place] = outcome.values[place];
+        found.report.values[place] = outcome.values[place];
     }
-    report->wrote = outcome.wrote;
-    return true;
+    found.report.wrote = outcome.wrote;
+    return found;
 }
 
-static void hand_in(morning *today, sorghemi_choice choice, sorghemi_report report)
+/* Makes the report, and starts no more runs than there are workers free to do them. False where no step is allowed any more. */
+static bool take_turn(morning *today, finding found)
 {
-    bool guess = choice.step == SORGHEMI_STEP_START_SPECULATION;
-    uint8_t number = guess ? SORGHEMI_STEP_REPORT_SPECULATION : SORGHEMI_STEP_REPORT_OWN;
-    uint8_t refusal = sorghemi_step(&today->batch, number, choice.job, report).refusal;
-    /* Refused so, the guess was thrown away while this worker had it. That is no mistake, and nothing is lost. */
-    if (!(guess && refusal == SORGHEMI_REFUSED_WRONG_STATE)) {
-        expect_accepted("report", refusal);
+    size_t limit = today->free - today->count;
+    sorghemi_step_list steps;
+    sorghemi_turned turned = sorghemi_turn(&today->batch, found.number, found.job, found.report, limit, &steps);
+    if (found.number == SORGHEMI_STEP_REPORT_SPECULATION && turned.refusal == SORGHEMI_REFUSED_WRONG_STATE) {
+        /* The guess was thrown away while this worker had it. That is no mistake, and nothing is lost. */
+        turned = sorghemi_turn(&today->batch, nothing.number, nothing.job, nothing.report, limit, &steps);
     }
-}
-
-/* Takes the step that the chooser named. The lock is held before and after, and not while the worker checks. */
-static void take(morning *today, sorghemi_choice choice)
-{
-    sorghemi_report report = {{0, 0, 0, 0}, 0};
-    sorghemi_handed handed = sorghemi_step(&today->batch, choice.step, choice.job, report);
-    expect_accepted("step", handed.refusal);
-    if (choice.step != SORGHEMI_STEP_COMMIT) {
-        sorghemi_job job = today->batch.jobs[choice.job];
-        pthread_mutex_unlock(&today->lock);
-        bool checked = check(today, choice, job, handed.values, &report);
-        pthread_mutex_lock(&today->lock);
-        if (checked) {
-            hand_in(today, choice, report);
+    expect_accepted("turn", turned.refusal);
+    for (size_t step = 0; step < turned.count; step++) {
+        if (steps.taken[step].step != SORGHEMI_STEP_COMMIT) {
+            today->waiting[(today->first + today->count++) % MOST_WORKERS] = steps.taken[step];
         }
     }
-    pthread_cond_broadcast(&today->changed);
+    if (found.number != SORGHEMI_NO_REPORT || turned.count > 0) {
+        pthread_cond_broadcast(&today->changed);
+    }
+    return turned.count == (limit < SORGHEMI_MOST_STEPS ? limit : SORGHEMI_MOST_STEPS);
+}
+
+/* Takes up the oldest run that waits. The lock is held before and after, and not while the worker checks. */
+static finding take_up(morning *today)
+{
+    sorghemi_taken run = today->waiting[today->first];
+    sorghemi_job job = today->batch.jobs[run.job];
+    today->first = (today->first + 1) % MOST_WORKERS;
+    today->count--;
+    today->free--;
+    pthread_mutex_unlock(&today->lock);
+    finding found = check(today, run, job);
+    pthread_mutex_lock(&today->lock);
+    today->free++;
+    return found;
 }
 
 /* What each worker does until the batch is finished and no more jobs come in. */
 static void *work(void *shared)
 {
     morning *today = shared;
+    finding found = nothing; /* of the run that this worker had */
     pthread_mutex_lock(&today->lock);
-    while (today->line_open || !sorghemi_batch_ask_batch(&today->batch).finished) {
-        sorghemi_choice choice = sorghemi_batch_choose(&today->batch);
-        switch (choice.refusal) {
-        case SORGHEMI_ACCEPTED:
-            take(today, choice);
+    for (;;) {
+        bool more = take_turn(today, found);
+        found = nothing;
+        if (today->count > 0) {
+            found = take_up(today);
+        } else if (!today->line_open && sorghemi_batch_ask_batch(&today->batch).finished) {
             break;
-        case SORGHEMI_REFUSED_NOTHING_TO_START: /* before another worker has reported or a job has come in */
+        } else if (!more) { /* before another worker has reported or a job has come in */
             pthread_cond_wait(&today->changed, &today->lock);
-            break;
-        default:
-            expect_accepted("choose", choice.refusal);
         }
     }
     pthread_mutex_unlock(&today->lock);
@@ -205,6 +227,7 @@ static void run(morning *today, long workers)
     pthread_attr_t attributes;
     pthread_attr_init(&attributes);
     pthread_attr_setstacksize(&attributes, STACK);
+    today->free = (size_t)workers;
     for (long worker = 0; worker < workers; worker++) {
         if (pthread_create(&threads[worker], &attributes, work, today) != 0) {
             fprintf(stderr, "no thread could be started\n");

@@ -70,11 +70,20 @@ jobList = 4104 ∷ 0 ∷ 8 ∷ []
 abbrev inserted : List ℕ
 inserted = 2 ∷ 0 ∷ 1 ∷ []
 
+abbrev taken : List ℕ
+taken = 20 ∷ 0 ∷ 1 ∷ 4 ∷ []
+
+abbrev stepList : List ℕ
+stepList = 320 ∷ 0 ∷ []
+
+abbrev turned : List ℕ
+turned = 2 ∷ 0 ∷ 1 ∷ []
+
 abbrev pub layout : List ℕ
 layout =
-    6
+    7
     ∷ batch ++ run ++ jobSet ++ job ++ access
     ++ report ++ handed ++ started ++ answer
     ++ choice ++ cellAnswer ++ jobAnswer ++ batchAnswer ++ outcome ++ planAnswer
     ++ tally ++ tallyAnswer ++ shareAnswer ++ setAnswer ++ speculationAnswer
-    ++ jobList ++ inserted
+    ++ jobList ++ inserted ++ taken ++ stepList ++ turned

@@ -5,9 +5,9 @@ ghost use lib.ListN.{getD};
 ghost use Rattle.sorghemi.specs.Layout.{layout};
 
 /// The version of the list, then of each struct its size and the offsets of its fields in their order.
-const NUMBERS: [u32; 101] = [
+const NUMBERS: [u32; 110] = [
     // the version
-    6,
+    7,
     // Batch
     11912,
     0,
@@ -130,6 +130,18 @@ const NUMBERS: [u32; 101] = [
     2,
     0,
     1,
+    // Taken
+    20,
+    0,
+    1,
+    4,
+    // StepList
+    320,
+    0,
+    // Turned
+    2,
+    0,
+    1,
 ];
 
 /// R95: the number at a place of the list that hosts compare their own with; 0 past its end.
@@ -138,7 +150,7 @@ pub extern "C" fn sorghemi_layout(place: usize) -> u32
     ensures { λ r. ⌜ r ≡ getD layout place 0 ⌝ }
 {
     let numbers = NUMBERS;
-    if place < 101 {
+    if place < 110 {
         return numbers[place];
     }
     0

@@ -1,12 +1,13 @@
-//! A batch with several workers: one lock round the batch, and threads that take the jobs that the chooser names. While they are
-//! at it, corrections come in.
+//! A batch with several workers: one lock round the batch, and threads that take turns: each reports what it has done, and takes
+//! what is to be done next, for itself and for those who are free. While they are at it, corrections come in.
 //!
 //!     cargo run --example threads -- 8
 //!
 //! How the threads get on decides which guesses are made, kept and thrown away, and never what the heights are at the end.
 //! host/README.md has what a host with threads has to know; host/c/threads.c is the same in C.
 
-use sorghemi::{Batch, Choice, Committed, Job, JobState, Phase, Refusal, Report, Step, Validity};
+use sorghemi::{Batch, Committed, Job, JobState, Phase, Refusal, RunReport, Step, Taken, Validity, MOST_STEPS};
+use std::collections::VecDeque;
 use std::fmt::Display;
 use std::sync::atomic::{AtomicUsize, Ordering};
 use std::sync::{Condvar, Mutex};
@@ -19,7 +20,7 @@ const STACK: usize = 256 * 1024;
 /// What the threads share.
 struct Morning {
     desk: Mutex<Desk>,
-    /// Told whenever a job was reported, was settled or came in, and when the line is closed.
+    /// Told whenever a turn has reported or taken a step, when a job has come in, and when the line is closed.
     changed: Condvar,
     /// How long a part of a check takes. A real check has work to do instead.
     pace: Duration,
@@ -34,34 +35,52 @@ struct Morning {
 /// What is under the lock.
 struct Desk {
     batch: Batch,
+    /// Runs that turns have started and that no worker has taken up yet.
+    waiting: VecDeque<Taken>,
+    /// How many workers have no run. They are never fewer than the runs that wait.
+    free: usize,
     /// Whether more jobs may come in. While they may, a finished batch is no reason to leave.
     line_open: bool,
 }
 
 /// What each worker does until the batch is finished and no more jobs come in.
 fn work(morning: &Morning) {
+    let mut report = None; // on the run that this worker had
     let mut desk = morning.desk.lock().unwrap();
-    while desk.line_open || !desk.batch.finished() {
-        let choice = match desk.batch.choose() {
-            // Nothing to start before another worker has reported or a job has come in.
-            Err(Refusal::NOTHING_TO_START) => {
-                desk = morning.changed.wait(desk).unwrap();
-                continue;
-            }
-            choice => accepted(choice),
-        };
-        let handed = accepted(desk.batch.step(choice.step, choice.job, Report::default()));
-        if choice.step != Step::Commit {
-            let job = accepted(desk.batch.job(choice.job)).job;
+    loop {
+        let more = take_turn(morning, &mut desk, report.take());
+        if let Some(run) = desk.waiting.pop_front() {
+            desk.free -= 1;
+            let job = accepted(desk.batch.job(run.job)).job;
             drop(desk); // The others go on while this one checks.
-            let report = check(morning, choice, job, handed);
+            report = check(morning, run, job);
             desk = morning.desk.lock().unwrap();
-            if let Some(report) = report {
-                hand_in(morning, &mut desk.batch, choice, report);
-            }
+            desk.free += 1;
+        } else if !desk.line_open && desk.batch.finished() {
+            return;
+        } else if !more {
+            // Nothing to start before another worker has reported or a job has come in.
+            desk = morning.changed.wait(desk).unwrap();
         }
+    }
+}
+
+/// Makes the report, and starts no more runs than there are workers free to do them. False where no step is allowed any more.
+fn take_turn(morning: &Morning, desk: &mut Desk, report: Option<RunReport>) -> bool {
+    let limit = desk.free - desk.waiting.len();
+    let turn = match desk.batch.turn(report, limit) {
+        // The guess was thrown away while this worker had it. That is no mistake, and nothing is lost.
+        Err(Refusal::WRONG_STATE) if matches!(report, Some(RunReport::Speculation(..))) => {
+            morning.late.fetch_add(1, Ordering::Relaxed);
+            accepted(desk.batch.turn(None, limit))
+        }
+        turn => accepted(turn),
+    };
+    desk.waiting.extend(turn.runs());
+    if report.is_some() || !turn.steps().is_empty() {
         morning.changed.notify_all();
     }
+    turn.steps().len() == limit.min(MOST_STEPS)
 }
 
 /// What the call answered. A refusal here is a mistake of this program and ends it: a thread that only panicked would leave the
@@ -73,17 +92,17 @@ fn accepted<T, E: Display>(answer: Result<T, E>) -> T {
     })
 }
 
-/// The job's check of the values that were handed out. Nothing comes of a guess that is given up.
-fn check(morning: &Morning, choice: Choice, job: Job, handed: [i32; 4]) -> Option<Report> {
+/// The check of the run's job, and the report on it. Nothing comes of a guess that is given up.
+fn check(morning: &Morning, run: Taken, job: Job) -> Option<RunReport> {
     const PARTS: usize = 5;
     for _ in 0..PARTS {
-        if choice.step == Step::StartSpeculation && !is_of_use(morning, choice.job) {
+        if run.step == Step::StartSpeculation && !is_of_use(morning, run.job) {
             morning.given_up.fetch_add(1, Ordering::Relaxed);
             return None;
         }
         thread::sleep(morning.pace);
     }
-    Some(accepted(job.result(handed)))
+    run.reporting(accepted(job.result(run.handed)))
 }
 
 /// Whether the guess that a worker has may still be settled. It may not where it has fallen, or where the job's own run has taken
@@ -91,19 +110,6 @@ fn check(morning: &Morning, choice: Choice, job: Job, handed: [i32; 4]) -> Optio
 fn is_of_use(morning: &Morning, job: usize) -> bool {
     let state = accepted(morning.desk.lock().unwrap().batch.job(job));
     matches!(state.validity, Validity::Undecided | Validity::Valid)
-}
-
-fn hand_in(morning: &Morning, batch: &mut Batch, choice: Choice, report: Report) {
-    let reported = match choice.step {
-        Step::StartOwn => batch.report_own(choice.job, report),
-        _ => batch.report_speculation(choice.job, report),
-    };
-    // The guess was thrown away while this worker had it. That is no mistake, and nothing is lost.
-    if choice.step == Step::StartSpeculation && reported == Err(Refusal::WRONG_STATE) {
-        morning.late.fetch_add(1, Ordering::Relaxed);
-    } else {
-        accepted(reported);
-    }
 }
 
 /// Six gauges. Of the tests some find something and some do not, so that guesses are kept and guesses are thrown away.
@@ -181,7 +187,7 @@ pub struct End {
 /// The batch run by so many workers, one at least, while corrections come in.
 pub fn run(workers: usize, pace: Duration) -> Result<End, Refusal> {
     let morning = Morning {
-        desk: Mutex::new(Desk { batch: plan()?, line_open: true }),
+        desk: Mutex::new(Desk { batch: plan()?, waiting: VecDeque::new(), free: workers, line_open: true }),
         changed: Condvar::new(),
         pace,
         given_up: AtomicUsize::new(0),

@@ -3,9 +3,10 @@
 use crate::job::{Job, Report};
 use crate::layout;
 use crate::numbers::{Committed, Phase, Step, Validity};
-use crate::raw::{self, Inserted, JobList, Record};
+use crate::raw::{self, Inserted, JobList, Record, StepList};
 use crate::refusal::{Refusal, RefusedJob};
 use crate::tally::Tally;
+use crate::turn::{RunReport, Turn};
 use std::ops::Range;
 
 /// A step worth taking next.
@@ -279,7 +280,8 @@ impl Batch {
     }
 
     /// The step worth taking next: a settling, else an own run, else a guess. Of the jobs that may take it the one with the longest
-    /// [chain](Choice::chain), of several such the one with the fewest accesses, and of several such again the lowest.
+    /// [chain](Choice::chain), of several such the one with the fewest accesses, and of several such again the lowest. It is named and
+    /// not taken; [`turn`](Batch::turn) takes such steps.
     ///
     /// # Errors
     ///
@@ -290,6 +292,60 @@ impl Batch {
         Refusal::check(choice.refusal)?;
         let step = Step::from_number(choice.step).expect("the chooser names a step");
         Ok(Choice { step, job: choice.job as usize, chain: choice.chain as usize })
+    }
+
+    /// A worker's turn: makes the report that it brings, if any, and then the step that [`choose`](Batch::choose) names, and this
+    /// again and again, until as many steps are taken as the limit says, or [`MOST_STEPS`], or none is allowed (R64).
+    ///
+    /// Where it took fewer steps than the limit, and fewer than [`MOST_STEPS`], none is allowed before another report, or another
+    /// job. With a limit of 0 the report alone is made. The batch is left as report and steps leave it call by call (R161).
+    ///
+    /// [`MOST_STEPS`]: crate::MOST_STEPS
+    ///
+    /// Monday's batch, the shift guessed while the spike test is out:
+    ///
+    /// ```
+    /// use sorghemi::{Batch, Job, Report, RunReport, Step};
+    ///
+    /// # fn main() -> Result<(), sorghemi::Refusal> {
+    /// let mut batch = Batch::open(&[1500, 1480])?;
+    /// let (spike, shift) = (batch.insert(Job::spike(0, 1, 1000))?, batch.insert(Job::shift(0, 20))?);
+    /// batch.seal(true)?;
+    ///
+    /// // Two workers are free, and there is a run for each.
+    /// let turn = batch.turn(None, 2)?;
+    /// let [test, guess] = turn.steps() else { panic!("{turn:?}") };
+    /// assert_eq!((test.step, test.job, test.handed), (Step::StartOwn, spike, [1500, 1480, 0, 0]));
+    /// assert_eq!((guess.step, guess.job, guess.handed), (Step::StartSpeculation, shift, [1500, 0, 0, 0]));
+    ///
+    /// // The shift is done first. It has to wait for the test, and so does its worker.
+    /// let turn = batch.turn(Some(RunReport::Speculation(shift, Report::of(&[1520]))), 1)?;
+    /// assert_eq!(turn.steps(), []);
+    ///
+    /// // The test found nothing, and so the shift is settled by its guess, in the same call.
+    /// let turn = batch.turn(test.reporting(Report::of(&[1500, 1480])), 2)?;
+    /// assert_eq!(turn.steps().len(), 1);
+    /// assert_eq!((turn.steps()[0].step, turn.steps()[0].job), (Step::Commit, shift));
+    /// assert!(batch.finished());
+    /// assert_eq!(batch.cells(), [1520, 1480]);
+    /// # Ok(())
+    /// # }
+    /// ```
+    ///
+    /// # Errors
+    ///
+    /// Those of the report, [`report_own`](Batch::report_own) or [`report_speculation`](Batch::report_speculation): then no step is
+    /// taken either, and nothing is changed. Without a report [`NOT_SEALED`](Refusal::NOT_SEALED). That no step is allowed is no
+    /// error.
+    pub fn turn(&mut self, report: Option<RunReport>, limit: usize) -> Result<Turn, Refusal> {
+        let (number, job, report) = match report.map(RunReport::parts) {
+            Some((step, job, report)) => (step.number(), job, report),
+            None => (raw::NO_REPORT, 0, Report::default()),
+        };
+        let mut steps = StepList::default();
+        let turned = unsafe { raw::sorghemi_turn(&mut self.record, number, job, report, limit, &mut steps) };
+        Refusal::check(turned.refusal)?;
+        Ok(Turn::of(steps, turned.count))
     }
 
     /// The height of a cell.

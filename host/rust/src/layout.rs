@@ -16,7 +16,7 @@ macro_rules! places {
 
 /// The list as this crate has it: a version, then of each struct its size and the offsets of its fields, in bytes.
 pub fn wrapper_layout() -> Vec<u32> {
-    let mut list = vec![6];
+    let mut list = vec![7];
     places! { list:
         Record { cell_count, job_count, sealed, speculating, cells, jobs, runs, committed, running, phase }
         Run { handed, reported, wrote, sources, bypassed }
@@ -40,6 +40,9 @@ pub fn wrapper_layout() -> Vec<u32> {
         SpeculationAnswer { refusal, bypassed, open }
         JobList { count, jobs }
         Inserted { refusal, at }
+        Taken { step, job, handed }
+        StepList { taken }
+        Turned { refusal, count }
     }
     list
 }

@@ -40,8 +40,8 @@
 //! assert_eq!(refusal.to_string(), "refused with 1: a batch has 1 to 64 cells");
 //! ```
 //!
-//! A host with threads puts one lock round its batch; `examples/threads.rs` is such a host, and host/README.md says what it has to
-//! know.
+//! A host with threads puts one lock round its batch, and its workers take turns ([`Batch::turn`]); `examples/threads.rs` is such a
+//! host, and host/README.md says what it has to know.
 //!
 //! # Stack
 //!
@@ -59,6 +59,7 @@ pub mod raw;
 mod refusal;
 mod show;
 mod tally;
+mod turn;
 
 pub use batch::{Batch, Choice, JobState, Jobs, Progress, Speculation};
 pub use job::{Job, Report};
@@ -68,6 +69,7 @@ pub use plan::{answer, LONGEST_ANSWER};
 pub use raw::{Access, JobSet, Record, Run};
 pub use refusal::{Refusal, RefusedJob};
 pub use tally::Tally;
+pub use turn::{RunReport, Taken, Turn, MOST_STEPS};
 
 /// The example on the project's first page, tried with the others.
 #[cfg(doctest)]

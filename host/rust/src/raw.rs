@@ -2,6 +2,7 @@
 
 use crate::job::{Job, Report};
 use crate::tally::Tally;
+use crate::turn::MOST_STEPS;
 
 /// One access of a job: a cell by its number, and its mode: 0 read, 1 write, 2 maybe-write, 3 predicted write.
 #[repr(C)]
@@ -82,6 +83,36 @@ pub struct JobList {
 pub struct Inserted {
     pub refusal: u8,
     pub at: u8,
+}
+
+/// The number that a turn is given where it brings no report.
+pub const NO_REPORT: u8 = 255;
+
+/// A step that a turn took: its number 4, 0 or 1, its job, and the values handed to the run that it started, zeros for step 4.
+#[repr(C)]
+#[derive(Clone, Copy, Debug, Default, PartialEq, Eq)]
+#[allow(missing_docs)]
+pub struct Taken {
+    pub step: u8,
+    pub job: u8,
+    pub handed: [i32; 4],
+}
+
+/// The steps of a turn, in their order, and zeros after them.
+#[repr(C)]
+#[derive(Clone, Copy, Debug, Default, PartialEq, Eq)]
+#[allow(missing_docs)]
+pub struct StepList {
+    pub taken: [Taken; MOST_STEPS],
+}
+
+/// What a turn on a lent record answers: the number of its refusal or 0, and how many steps it took.
+#[repr(C)]
+#[derive(Clone, Copy, Debug, PartialEq, Eq)]
+#[allow(missing_docs)]
+pub struct Turned {
+    pub refusal: u8,
+    pub count: u8,
 }
 
 /// What a step on a lent record answers: the number of its refusal or 0, and the values handed to a run that it started, zeros otherwise.
@@ -229,6 +260,14 @@ extern "C" {
     pub fn sorghemi_step(batch: *mut Record, number: u8, job: usize, report: Report) -> Handed;
     pub fn sorghemi_step_by_value(batch: Record, number: u8, job: usize, report: Report) -> Started;
     pub fn sorghemi_choose(batch: Record) -> Choice;
+    pub fn sorghemi_turn(
+        batch: *mut Record,
+        number: u8,
+        job: usize,
+        report: Report,
+        limit: usize,
+        steps: *mut StepList,
+    ) -> Turned;
     pub fn sorghemi_ask_cell(batch: Record, cell: usize) -> CellAnswer;
     pub fn sorghemi_ask_job(batch: Record, job: usize) -> JobAnswer;
     pub fn sorghemi_ask_speculation(batch: Record, job: usize) -> SpeculationAnswer;

@@ -1,9 +1,9 @@
 //! The wrapper over the archive: batches run to their end, every refusal that a caller can meet, and the record kept.
 
-use sorghemi::raw::{sorghemi_insert_all, Inserted, JobList};
+use sorghemi::raw::{self, sorghemi_insert_all, sorghemi_turn, Inserted, JobList, StepList, Turned, NO_REPORT};
 use sorghemi::{
-    answer, Batch, Choice, Committed, Job, JobState, Jobs, Kind, Mode, Phase, Record, Refusal, RefusedJob, Report, Speculation,
-    Step, Validity,
+    answer, Batch, Choice, Committed, Job, JobState, Jobs, Kind, Mode, Phase, Record, Refusal, RefusedJob, Report, RunReport,
+    Speculation, Step, Taken, Validity, MOST_STEPS,
 };
 
 /// A small generator of random numbers, the same in every run.
@@ -61,6 +61,149 @@ fn thursday() {
     };
     assert_eq!(batch.job(0), Ok(spike));
     assert_eq!(batch.job(1).unwrap().phase, Phase::Discarded);
+}
+
+fn taken(step: Step, job: usize, handed: [i32; 4]) -> Taken {
+    Taken { step, job, handed }
+}
+
+#[test]
+fn monday_by_turns() {
+    let mut batch = sealed(&[1500, 1480], &[Job::spike(0, 1, 1000), Job::shift(0, 20)]);
+    let (test, guess) = (taken(Step::StartOwn, 0, [1500, 1480, 0, 0]), taken(Step::StartSpeculation, 1, [1500, 0, 0, 0]));
+    assert_eq!(batch.turn(None, 16).unwrap().steps(), [test, guess]);
+    assert_eq!(batch.turn(guess.reporting(Report::of(&[1520])), 16).unwrap().steps(), []);
+    // The test found nothing: the guess is kept in the turn that reports so.
+    let kept = taken(Step::Commit, 1, [0; 4]);
+    assert_eq!(batch.turn(test.reporting(Report::of(&[1500, 1480])), 16).unwrap().steps(), [kept]);
+    assert!(batch.finished());
+    assert_eq!(batch.cells(), [1520, 1480]);
+    assert_eq!(batch.job(1).unwrap().committed, Committed::BySpeculation);
+}
+
+#[test]
+fn thursday_by_turns() {
+    let mut batch = sealed(&[2900, 1500], &[Job::spike(0, 1, 1000), Job::shift(0, 20)]);
+    let turn = batch.turn(None, 2).unwrap();
+    assert_eq!(turn.runs().map(|run| run.job).collect::<Vec<_>>(), [0, 1]);
+    batch.turn(Some(RunReport::Speculation(1, Report::of(&[2920]))), 1).unwrap();
+    // The test struck 2900 out: the shift's own run is started in the turn that reports so.
+    let again = taken(Step::StartOwn, 1, [1500, 0, 0, 0]);
+    assert_eq!(batch.turn(Some(RunReport::Own(0, Report::written(&[1500]))), 1).unwrap().steps(), [again]);
+    assert_eq!(batch.job(1).unwrap().phase, Phase::Discarded);
+    assert_eq!(batch.turn(again.reporting(Report::of(&[1520])), 1).unwrap().steps(), []);
+    assert!(batch.finished());
+    assert_eq!(batch.cells(), [1520, 1500]);
+}
+
+/// R66: the report's own refusal, and neither record nor list is touched; nor by a number that is no report.
+#[test]
+fn a_refused_turn_changes_nothing() {
+    let mut batch = sealed(&[1500, 1480], &[Job::spike(0, 1, 1000), Job::shift(0, 20)]);
+    batch.turn(None, 2).unwrap();
+    let before = batch.clone();
+    let marked = Report { values: [0; 4], wrote: 2 };
+    let refused = [
+        (RunReport::Own(1, Report::default()), Refusal::WRONG_STATE),
+        (RunReport::Speculation(0, Report::default()), Refusal::WRONG_STATE),
+        (RunReport::Own(2, Report::default()), Refusal::NO_SUCH_JOB),
+        (RunReport::Own(usize::MAX, Report::default()), Refusal::NO_SUCH_JOB),
+        (RunReport::Own(0, marked), Refusal::WRONG_MARK),
+        (RunReport::Speculation(1, Report::written(&[1520])), Refusal::WRONG_MARK),
+    ];
+    for (report, refusal) in refused {
+        assert_eq!((batch.turn(Some(report), 16), &batch), (Err(refusal), &before), "{report:?}");
+    }
+    let mut record = *before.record();
+    let untouched = StepList { taken: [raw::Taken { step: 9, job: 9, handed: [9; 4] }; MOST_STEPS] };
+    let mut list = untouched;
+    let mut refusal = |record: &mut Record, number| {
+        let turned = unsafe { sorghemi_turn(record, number, 0, Report::default(), 16, &mut list) };
+        assert_eq!((turned.count, &list), (0, &untouched), "number {number}");
+        turned.refusal
+    };
+    for number in (0..NO_REPORT).filter(|number| ![2, 3].contains(number)) {
+        assert_eq!(refusal(&mut record, number), 21, "number {number}");
+    }
+    assert_eq!(refusal(&mut record, 3), 13);
+    assert_eq!(record, *before.record());
+    // 32 goes before all.
+    record.sealed = 2;
+    assert_eq!([0, 2, 3, 4, NO_REPORT].map(|number| refusal(&mut record, number)), [32; 5]);
+}
+
+/// R65: the list is written whole, with zeros after the last step.
+#[test]
+fn a_turn_writes_the_whole_list() {
+    let mut record = *sealed(&[1500], &[Job::shift(0, 20)]).record();
+    let mut list = StepList { taken: [raw::Taken { step: 9, job: 9, handed: [9; 4] }; MOST_STEPS] };
+    // Without a report neither job nor report are looked at.
+    let report = Report { values: [7; 4], wrote: 255 };
+    let turned = unsafe { sorghemi_turn(&mut record, NO_REPORT, usize::MAX, report, usize::MAX, &mut list) };
+    assert_eq!(turned, Turned { refusal: 0, count: 1 });
+    let mut expected = StepList::default();
+    expected.taken[0].handed[0] = 1500;
+    assert_eq!(list, expected);
+}
+
+#[test]
+fn a_turn_with_limit_0_makes_its_report_alone() {
+    let mut batch = sealed(&[1500, 1480], &[Job::shift(0, 20), Job::shift(1, 20), Job::shift(0, 5)]);
+    let before = batch.clone();
+    assert_eq!(batch.turn(None, 0).unwrap().steps(), []);
+    assert_eq!(batch, before);
+    batch.turn(None, 1).unwrap();
+    let mut by_steps = batch.clone();
+    assert_eq!(batch.turn(Some(RunReport::Own(0, Report::of(&[1520]))), 0).unwrap().steps(), []);
+    by_steps.report_own(0, Report::of(&[1520])).unwrap();
+    assert_eq!(batch, by_steps);
+    // Two steps are allowed now, which the turn has left.
+    assert_eq!(batch.turn(None, 5).unwrap().steps().len(), 2);
+}
+
+/// R65, on batches that more workers take than a turn has places for.
+#[test]
+fn a_turn_that_takes_fewer_steps_than_its_limit_leaves_none() {
+    let jobs: Vec<Job> =
+        (0..40).map(|job| if job % 2 == 0 { Job::floor(job / 2, 1400) } else { Job::shift(job / 2, 5) }).collect();
+    for limit in [1, 2, 3, 15, 16, 17, usize::MAX] {
+        let mut batch = sealed(&[1500; 20], &jobs);
+        let most = limit.min(MOST_STEPS);
+        let mut counts = Vec::new();
+        while counts.last().map_or(true, |&count| count == most) {
+            let mut by_choices = batch.clone();
+            let turn = batch.turn(None, limit).unwrap();
+            for step in &turn {
+                let choice = by_choices.choose().unwrap();
+                assert_eq!((choice.step, choice.job), (step.step, step.job));
+                assert_eq!(by_choices.step(step.step, step.job, Report::default()), Ok(step.handed));
+            }
+            assert_eq!(batch, by_choices);
+            counts.push(turn.steps().len());
+        }
+        // 20 own runs and 20 guesses: none is left, and none was left before the last turn.
+        assert_eq!(batch.choose(), Err(Refusal::NOTHING_TO_START));
+        assert_eq!(counts.iter().sum::<usize>(), 40);
+    }
+}
+
+#[test]
+fn a_turn_before_the_seal_is_refused() {
+    let mut batch = Batch::open(&[1500]).unwrap();
+    batch.insert(Job::shift(0, 20)).unwrap();
+    assert_eq!(batch.turn(None, 1), Err(Refusal::NOT_SEALED));
+    assert_eq!(batch.turn(None, 0), Err(Refusal::NOT_SEALED));
+    assert_eq!(batch.turn(Some(RunReport::Own(0, Report::default())), 1), Err(Refusal::NOT_SEALED));
+    batch.seal(false).unwrap();
+    assert_eq!(batch.turn(None, 1).unwrap().runs().count(), 1);
+}
+
+#[test]
+fn a_turn_is_shown_by_its_steps() {
+    let mut batch = sealed(&[1500], &[Job::shift(0, 20)]);
+    let turn = batch.turn(None, 16).unwrap();
+    assert_eq!(format!("{turn:?}"), "Turn([Taken { step: StartOwn, job: 0, handed: [1500, 0, 0, 0] }])");
+    assert_eq!(taken(Step::Commit, 0, [0; 4]).reporting(Report::default()), None);
 }
 
 /// P12 of docs/RULES.md, the job inserted when all others are settled.
@@ -559,6 +702,7 @@ fn calls_keep_a_record_in_form() {
     let start = sealed(&[1300, 5, 7], &jobs);
     let mut random = Random(1);
     let mut accepted = [0; 5];
+    let mut turns = [0; 3];
     for _ in 0..4000 {
         let mut batch = in_any_state(&start, &mut random);
         for _ in 0..8 {
@@ -566,9 +710,15 @@ fn calls_keep_a_record_in_form() {
             accepted[step as usize] += batch.step(step, job, random.report()).is_ok() as usize;
             assert!(Batch::from_record(*batch.record()).is_ok(), "after {step:?} of job {job}");
         }
+        let (job, report) = (usize::from(random.below(5)), random.report());
+        let reports = [None, Some(RunReport::Own(job, report)), Some(RunReport::Speculation(job, report))];
+        for (report, turns) in reports.into_iter().zip(&mut turns) {
+            *turns += batch.turn(report, usize::from(random.below(3))).is_ok() as usize;
+            assert!(Batch::from_record(*batch.record()).is_ok(), "after a turn with {report:?}");
+        }
         assert_eq!(batch.cells().len(), 3);
     }
-    assert!(accepted.iter().all(|&times| times > 100), "{accepted:?}");
+    assert!(accepted.iter().chain(&turns).all(|&times| times > 100), "{accepted:?}, {turns:?}");
 }
 
 #[test]
