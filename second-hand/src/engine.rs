@@ -28,6 +28,12 @@ pub const REPORT_OWN: u32 = 2;
 pub const REPORT_GUESS: u32 = 3;
 pub const SETTLE: u32 = 4;
 
+/// R64: in the place of a report's number, that a turn has none.
+pub const NO_REPORT: u32 = 255;
+
+/// R64: so many steps a turn takes at most.
+pub const MOST_TAKEN: usize = 16;
+
 /// R1, R2: the limits.
 pub const MOST_CELLS: usize = 64;
 pub const MOST_JOBS: usize = 128;
@@ -137,6 +143,14 @@ pub struct Choice {
     pub job: u32,
     /// The length of the job's chain (R22).
     pub chain: u32,
+}
+
+/// R65: a step that a turn took, and the values that it handed out, zeros for a step 4.
+#[derive(Clone, Copy, Debug, PartialEq, Eq)]
+pub struct Taken {
+    pub step: u32,
+    pub job: u32,
+    pub handed: [i32; 4],
 }
 
 impl Job {
@@ -633,6 +647,42 @@ impl Batch {
         }
         // R119: none is allowed.
         Err(19)
+    }
+}
+
+// ---------------------------------------------------------------------------
+// The turn
+
+impl Batch {
+    /// R64: the report, and then what the chooser names, again and again. R65: the steps
+    /// taken, in their order. R66: or the number of a refusal, and nothing has changed.
+    pub fn turn(&mut self, number: u32, job: u32, report: Report, limit: usize) -> Result<Vec<Taken>, u32> {
+        match number {
+            REPORT_OWN => self.report_own(job, report)?,
+            REPORT_GUESS => self.report_guess(job, report)?,
+            NO_REPORT if self.sealed.is_some() => {}
+            NO_REPORT => return Err(10),
+            _ => return Err(21),
+        }
+        let mut taken = Vec::new();
+        while taken.len() < limit.min(MOST_TAKEN) {
+            match self.choose() {
+                Ok(named) => taken.push(self.take(named)),
+                Err(19) => break,
+                Err(other) => unreachable!("{other} of a sealed batch"),
+            }
+        }
+        Ok(taken)
+    }
+
+    /// Takes the step that the chooser named. R63: it is accepted.
+    fn take(&mut self, Choice { step, job, .. }: Choice) -> Taken {
+        let handed = match step {
+            SETTLE => self.settle(job).map(|()| [0; 4]),
+            START_OWN => self.start_own(job),
+            _ => self.start_guess(job),
+        };
+        Taken { step, job, handed: handed.expect("R63") }
     }
 }
 

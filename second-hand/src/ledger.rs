@@ -6,8 +6,9 @@ use std::collections::BTreeSet;
 
 use crate::engine::Report;
 use crate::lists::{Answer, Call};
-use crate::record::Job;
+use crate::record::{Job, Taken};
 use crate::sets::{GuessTold, Told};
+use crate::turns::Turn;
 
 /// R56: the run that counts, and what was reported of it.
 #[derive(Clone, Copy, Debug)]
@@ -100,6 +101,17 @@ impl Ledger {
         if refusal == 0 {
             let inserts = jobs.iter().map(|&job| Call::Insert(job));
             inserts.for_each(|insert| self.enter(&insert, (0, [0; 4])));
+        }
+    }
+
+    /// R161: a turn (R64) counts as its report, where it has one, and then as the steps in
+    /// its list, in their order; a refused one counts as no call.
+    pub fn enter_turn(&mut self, turn: &Turn, refusal: u8, taken: &[Taken]) {
+        if refusal == 0 {
+            let report = turn.report().map(|report| (report, [0; 4]));
+            let steps = taken.iter().map(|taken| (taken.step_call(), taken.handed));
+            let calls = report.into_iter().chain(steps);
+            calls.for_each(|(call, handed)| self.enter(&call, (0, handed)));
         }
     }
 

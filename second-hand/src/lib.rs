@@ -18,6 +18,7 @@ pub mod predictions;
 pub mod record;
 pub mod sets;
 pub mod tally;
+pub mod turns;
 
 /// The whole output of the program for one whole input.
 pub fn answer(input: &[u8]) -> Vec<u8> {

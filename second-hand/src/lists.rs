@@ -127,6 +127,8 @@ pub struct Manner {
     same: usize,
     /// A step starts a guess that takes from a fallen one, if that can be.
     behind: usize,
+    /// A turn reports no own run while a guess is out or can be started.
+    pub(crate) patience: usize,
 }
 
 impl Manner {
@@ -158,6 +160,7 @@ impl Manner {
             writes: dice.pick(&[0, 10, 40, 80]),
             same: dice.pick(&[0, 40, 80]),
             behind: 0,
+            patience: 0,
         }
     }
 
@@ -181,6 +184,7 @@ impl Manner {
             writes: dice.pick(&[30, 60, 90]),
             same: dice.pick(&[0, 0, 30, 60, 90]),
             behind: dice.pick(&[0, 50]),
+            patience: 0,
         }
     }
 
@@ -247,6 +251,7 @@ impl Manner {
             writes: dice.pick(&[0, 10, 40]),
             same: dice.pick(&[0, 60, 90]),
             behind: 0,
+            patience: 0,
         }
     }
 
@@ -277,6 +282,70 @@ impl Manner {
             writes: dice.pick(&[0, 2, 10]),
             same: dice.pick(&[0, 40, 80]),
             behind: 0,
+            patience: 0,
+        }
+    }
+
+    /// Many cells and many jobs on one of them or two, so that many can be started at once.
+    pub fn wide(dice: &mut Dice) -> Manner {
+        let cells = dice.pick(&[18, 24, 40, 64]);
+        let jobs = match dice.below(4) {
+            0 => FULL,
+            _ => 14 + dice.below(40),
+        };
+        let job = |dice: &mut Dice| {
+            let modes = {
+                let most = dice.pick(&[1, 1, 1, 2, 4]);
+                any_modes(dice, most, &[0, 1, 1, 2, 3])
+            };
+            job_of(dice, cells, 0, &modes, &[])
+        };
+        Manner {
+            heights: (0..cells).map(|_| height(dice)).collect(),
+            jobs: (0..jobs).map(|_| job(dice)).collect(),
+            early: dice.pick(&[jobs, jobs, jobs / 2]),
+            guessing: u8::from(dice.percent(75)),
+            by_rule: dice.percent(30),
+            pool: Vec::new(),
+            pace: dice.pick(&[10, 40]),
+            wild: dice.pick(&[0, 5]),
+            eager: dice.pick(&[20, 50]),
+            writes: dice.pick(&[0, 10, 40]),
+            same: dice.pick(&[0, 60, 90]),
+            behind: 0,
+            patience: dice.pick(&[0, 90]),
+        }
+    }
+
+    /// Long rows of writers on few cells, each behind a maybe-writer that mostly writes
+    /// nothing: so a turn that reports one of these may settle many guesses.
+    pub fn rows(dice: &mut Dice) -> Manner {
+        let cells = dice.pick(&[1, 1, 1, 2, 3]);
+        let jobs = cells * (18 + dice.below(20));
+        let one = |dice: &mut Dice, number: usize| {
+            let mode = match number < cells {
+                true => 2,
+                false if dice.percent(2) => 3,
+                false => dice.pick(&[1, 1, 1, 2]),
+            };
+            let mut job = job_of(dice, cells, 0, &[mode], &[]);
+            job.accesses[0].0 = (number % cells) as u8;
+            job
+        };
+        Manner {
+            heights: (0..cells).map(|_| height(dice)).collect(),
+            jobs: (0..jobs).map(|number| one(dice, number)).collect(),
+            early: jobs,
+            guessing: 1,
+            by_rule: false,
+            pool: Vec::new(),
+            pace: 0,
+            wild: dice.pick(&[0, 0, 3]),
+            eager: 80,
+            writes: dice.pick(&[0, 5]),
+            same: dice.pick(&[0, 50]),
+            behind: 0,
+            patience: dice.pick(&[90, 98, 100]),
         }
     }
 
@@ -409,7 +478,7 @@ impl Manner {
     }
 
     /// What is reported of the run that the job holds.
-    fn report(&self, dice: &mut Dice, record: &Record, job: usize) -> Report {
+    pub(crate) fn report(&self, dice: &mut Dice, record: &Record, job: usize) -> Report {
         let held = job < usize::from(record.job_count);
         let handed = if held {
             record.runs[job].handed

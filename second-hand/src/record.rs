@@ -29,6 +29,9 @@ const REPORT_OWN: u8 = 2;
 const REPORT_GUESS: u8 = 3;
 const SETTLE: u8 = 4;
 
+/// R64: the number of a turn without a report.
+const NO_REPORT: u8 = 255;
+
 const MOST_CELLS: u8 = 64;
 const MOST_JOBS: u8 = 128;
 
@@ -105,6 +108,25 @@ pub struct JobList {
 pub struct Inserted {
     pub refusal: u8,
     pub at: u8,
+}
+
+/// R64: as many places the lent list of a turn has.
+pub const PLACES: usize = 16;
+
+/// R65: a step that a turn took, with its number (4, 0 or 1), its job and the values that
+/// it handed out. Zeros stand in the places after the last.
+#[derive(Clone, Copy, PartialEq, Eq, Debug, Default)]
+pub struct Taken {
+    pub step: u8,
+    pub job: u8,
+    pub handed: [i32; 4],
+}
+
+/// R65, R66: what a turn answers: 0 or the refusal, and how many steps were taken.
+#[derive(Clone, Copy, PartialEq, Eq, Debug, Default)]
+pub struct Turned {
+    pub refusal: u8,
+    pub count: u8,
 }
 
 /// R90: the one run that a job holds, its own or its guess.
@@ -859,6 +881,58 @@ impl Record {
         }
         // R119: none is allowed.
         (19, 0, 0, 0)
+    }
+}
+
+// ---------------------------------------------------------------------------
+// The turn
+
+impl Record {
+    /// R64: a report, or none, and then steps of the chooser, as many as the limit says
+    /// and the list has places. Job, values and mark are looked at for a report alone.
+    pub fn turn(
+        &mut self,
+        number: u8,
+        job: usize,
+        values: [i32; 4],
+        wrote: u8,
+        limit: usize,
+        list: &mut [Taken; PLACES],
+    ) -> Turned {
+        let refusal = match number {
+            // R132, before all else, whatever the number.
+            _ if !self.in_form() => 32,
+            // R64: the report comes first. R66: refused, the turn is, with its number.
+            REPORT_OWN | REPORT_GUESS => self.step(number, job, values, wrote).0,
+            // R66: without a report, whatever the limit.
+            NO_REPORT if self.sealed == 0 => 10,
+            NO_REPORT => 0,
+            // R66, R121: no such number, so that 10 to 19 do not apply.
+            _ => 21,
+        };
+        let mut turned = Turned { refusal, count: 0 };
+        // R66: neither record nor list changes.
+        if refusal != 0 {
+            return turned;
+        }
+        // R65: zeros in the places after the steps.
+        *list = [Taken::default(); PLACES];
+        for place in list {
+            // R64: as many are taken as the limit says.
+            if usize::from(turned.count) == limit {
+                break;
+            }
+            let (refusal, step, job, _) = self.choose();
+            // R119, R66: the turn has taken what it could, and is not refused.
+            if refusal == 19 {
+                break;
+            }
+            let (answer, handed) = self.step(step, job.into(), ZEROS, 0);
+            assert_eq!((refusal, answer), (0, 0), "R63");
+            *place = Taken { step, job, handed };
+            turned.count += 1;
+        }
+        turned
     }
 }
 
