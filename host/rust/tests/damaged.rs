@@ -5,227 +5,29 @@
 //! list of jobs past those that are in it.
 //! DAMAGED=COUNT sets how many records, SEED=NUMBER which; it prints what was met (`cargo test --test damaged -- --nocapture`).
 
+mod damage;
 mod met;
 mod sets;
 mod setting;
 #[allow(dead_code)] // Forms of a list that only tests/lists.rs needs.
 mod theirs;
 
+use damage::{
+    any_sets, any_states, any_turn, damaged, place, place_of_a_guess, present, valid_record, worked_record, Random, EDGES,
+};
 use met::{add, print};
 use second_hand::choosing::Watch;
 use second_hand::joblists::{any_list, any_place};
 use second_hand::picks::{pick, Field};
 use second_hand::plans::Dice;
 use second_hand::record::JobList;
+use second_hand::turns::any_lent;
 use sets::Sets;
 use setting::setting;
-use sorghemi::raw::{sorghemi_step_by_value, JobAnswer, JobSet, Run, TallyAnswer};
-use sorghemi::{Access, Batch, Job, Mode, Record, Report, Step};
+use sorghemi::raw::{sorghemi_step_by_value, JobAnswer, JobSet, TallyAnswer};
+use sorghemi::{Job, Mode, Record, Report};
 use std::collections::BTreeMap;
-use std::mem::{offset_of, size_of};
 use theirs::{read_tally, Both};
-
-/// A small generator of random numbers, the same in every run.
-pub struct Random(u64);
-
-impl Random {
-    fn below(&mut self, limit: usize) -> usize {
-        self.0 ^= self.0 << 13;
-        self.0 ^= self.0 >> 7;
-        self.0 ^= self.0 << 17;
-        (self.0 >> 11) as usize % limit
-    }
-
-    fn one_in(&mut self, chance: usize) -> bool {
-        self.below(chance) == 0
-    }
-
-    fn height(&mut self) -> i32 {
-        self.below(4000) as i32 - 2000
-    }
-
-    /// A number below the limit, and sometimes one that is not.
-    fn around(&mut self, limit: usize) -> usize {
-        match self.below(20) {
-            0 => limit,
-            1 => 255,
-            2 => usize::MAX - self.below(2),
-            _ => self.below(limit.max(1)),
-        }
-    }
-
-    /// 128 bits.
-    fn bits(&mut self) -> u128 {
-        (0..4).fold(0, |bits, _| bits << 32 | self.below(1 << 32) as u128)
-    }
-
-    fn report(&mut self) -> Report {
-        let wrote = if self.one_in(20) { self.below(256) as u8 } else { self.below(2) as u8 };
-        Report { values: [(); 4].map(|_| self.height()), wrote }
-    }
-
-    /// A job on the cells that inserting mostly takes, with any predictions, and anything in places not in use.
-    fn job(&mut self, cells: usize) -> Job {
-        let mut job = self.job_without(cells);
-        job.accesses[job.arity as usize..].fill_with(|| self.unused(cells));
-        Job { predicted: [(); 4].map(|_| self.height()), ..job }
-    }
-
-    /// What stands in a place not in use: mostly what looks like an access in use.
-    fn unused(&mut self, cells: usize) -> Access {
-        match self.one_in(8) {
-            true => Access { cell: self.below(256) as u8, mode: self.below(256) as u8 },
-            false => Access { cell: self.below(cells) as u8, mode: self.below(4) as u8 },
-        }
-    }
-
-    /// Of kind 0 with any accesses, or of another kind with its own modes.
-    fn job_without(&mut self, cells: usize) -> Job {
-        let mut left: Vec<u8> = (0..cells as u8).collect();
-        let mut cell = || if left.is_empty() { 0 } else { left.swap_remove(self.below(left.len())) };
-        let [a, b, c, d] = [(); 4].map(|()| cell());
-        match self.below(10) {
-            0 => Job::set(a, self.height()),
-            1 | 2 => Job::shift(a, self.height()),
-            3 => Job::spike(a, b, self.below(2000) as i32),
-            4 => Job::floor(a, self.height()),
-            5 => Job::mean(a, b, c),
-            6 => Job::pair(a, b),
-            _ => {
-                let most = cells.min(4);
-                let count = if self.one_in(3) { 1 + self.below(most) } else { most };
-                Job::outside(0, &self.accesses([a, b, c, d])[..count])
-            }
-        }
-    }
-
-    /// Accesses of any mode, but the fourth is mostly no read, and often the only maybe-write.
-    fn accesses(&mut self, cells: [u8; 4]) -> [(u8, Mode); 4] {
-        let modes = [Mode::Read, Mode::Write, Mode::MaybeWrite, Mode::PredictedWrite];
-        let lists = [[3, 3, 3, 3], [2, 2, 2, 3], [4, 4, 4, 4], [4, 4, 4, 4]][self.below(4)];
-        let mut place = 0;
-        cells.map(|cell| {
-            let mode = modes[self.below(lists[place])];
-            place += 1;
-            let more = place == 4 && mode == Mode::Read && !self.one_in(4);
-            (cell, if more { modes[1 + self.below(2)] } else { mode })
-        })
-    }
-}
-
-/// A valid record somewhere on its way, with some cells and jobs.
-fn valid_record(random: &mut Random) -> Record {
-    let cells = if random.one_in(10) { 64 } else { 1 + random.below(6) };
-    let heights: Vec<i32> = (0..cells).map(|_| random.height()).collect();
-    let jobs = if random.one_in(20) { 128 } else { random.below(24) };
-    worked_record(&heights, jobs, random)
-}
-
-/// One with these heights and so many jobs: mostly sealed, after some steps of the chooser and some reports. Guesses are
-/// reported before own runs half of the time, and mostly not settled at once, so that guesses stand on guesses.
-fn worked_record(heights: &[i32], jobs: usize, random: &mut Random) -> Record {
-    let mut batch = Batch::open(heights).unwrap();
-    let cells = heights.len();
-    for _ in 0..jobs {
-        let _ = batch.insert(random.job(cells));
-    }
-    if random.one_in(20) {
-        return *batch.record();
-    }
-    batch.seal(!random.one_in(8)).unwrap();
-    let mut out = Vec::new();
-    for _ in 0..random.below(3 * jobs + 1) {
-        let choice = if random.one_in(3) { None } else { batch.choose().ok() };
-        if let Some(choice) = choice.filter(|choice| choice.step != Step::Commit || random.one_in(4)) {
-            let _ = batch.step(choice.step, choice.job, Report::default());
-            if choice.step != Step::Commit {
-                out.push((choice.step, choice.job));
-            }
-        } else if !out.is_empty() {
-            let guess = out.iter().position(|&(start, _)| start == Step::StartSpeculation).filter(|_| random.one_in(2));
-            let (start, job) = out.swap_remove(guess.unwrap_or(random.below(out.len())));
-            let step = if start == Step::StartOwn { Step::ReportOwn } else { Step::ReportSpeculation };
-            let report = Report { wrote: random.one_in(3) as u8, ..random.report() };
-            // A job without mode 2 has mark 0.
-            if batch.step(step, job, report).is_err() {
-                let _ = batch.step(step, job, Report { wrote: 0, ..report });
-            }
-        }
-    }
-    *batch.record()
-}
-
-/// A byte of the record at random: of any place, or of a place in use, where it matters.
-fn place(record: &Record, random: &mut Random) -> usize {
-    let job = random.below(record.job_count.max(1) as usize);
-    let (held, arity) = (offset_of!(Record, jobs) + job * size_of::<Job>(), record.jobs[job].arity.clamp(1, 4));
-    match random.below(11) {
-        0 | 1 => random.below(Record::SIZE),
-        2 => random.below(offset_of!(Record, cells)),
-        3 => held + random.below(size_of::<Job>()),
-        8 | 9 => held + offset_of!(Job, accesses) + random.below(arity.into()) * size_of::<Access>() + offset_of!(Access, mode),
-        10 => held + offset_of!(Job, predicted) + random.below(16),
-        4 => offset_of!(Record, runs) + job * size_of::<Run>() + random.below(size_of::<Run>()),
-        5 => offset_of!(Record, committed) + job,
-        6 => offset_of!(Record, running) + job,
-        _ => offset_of!(Record, phase) + job,
-    }
-}
-
-/// The record with one to three of its bytes changed: to another number in its list, to any number, or in one bit.
-fn damaged(record: &Record, random: &mut Random, place: fn(&Record, &mut Random) -> usize) -> Record {
-    let mut bytes = record.to_bytes();
-    for _ in 0..1 + random.below(3) {
-        let byte = &mut bytes[place(record, random)];
-        *byte = match random.below(3) {
-            0 => random.below(5) as u8,
-            1 => random.below(256) as u8,
-            _ => *byte ^ (1 << random.below(8)),
-        };
-    }
-    Record::from_bytes(&bytes)
-}
-
-/// The record with any states, marks, handed values and origins of its jobs that are in form, so that hardly a list of calls leads
-/// there.
-fn any_states(record: &Record, random: &mut Random) -> Record {
-    let mut record = *record;
-    for job in 0..record.job_count as usize {
-        record.committed[job] = random.below(3) as u8;
-        record.running[job] = random.below(2) as u8;
-        record.phase[job] = random.below(4) as u8;
-        let present = present(&record, job);
-        let run = &mut record.runs[job];
-        run.handed = any_handed(present, run.handed, random);
-        run.wrote = random.one_in(4) as u8;
-        run.sources = run.sources.map(|_| if random.one_in(6) { random.below(job + 1) as u8 } else { 0 });
-        run.bypassed = JobSet { low: 0, high: 0 };
-        for _ in 0..random.below(3).min(job) {
-            let past = 1u128 << random.below(job);
-            run.bypassed.low |= past as u64;
-            run.bypassed.high |= (past >> 64) as u64;
-        }
-    }
-    record
-}
-
-/// What stands in the cells of the job's four places; of a place not in use in any cell that it names, or 0.
-fn present(record: &Record, job: usize) -> [i32; 4] {
-    record.jobs[job].accesses.map(|access| record.cells.get(access.cell as usize).copied().unwrap_or(0))
-}
-
-/// Mostly what is there, or that with one place changed in one bit or in its sign; else what was handed, or anything.
-fn any_handed(present: [i32; 4], handed: [i32; 4], random: &mut Random) -> [i32; 4] {
-    let (mut values, place) = (present, random.below(4));
-    match random.below(6) {
-        0 => return handed,
-        1 => return [(); 4].map(|()| random.height()),
-        2 | 3 => values[place] ^= 1 << [0, 8, 16, 30, 31][random.below(5)],
-        4 => values[place] = values[place].wrapping_neg(),
-        _ => {}
-    }
-    values
-}
 
 /// A job for the step: mostly one in the state for it, if there is one, and half of the time one on which it is allowed, if a
 /// few tries find it; else any, and sometimes a number that no job has.
@@ -253,6 +55,10 @@ fn job_for(number: u8, record: &Record, random: &mut Random) -> usize {
     }
     job
 }
+
+/// Turns, by the number that they are given.
+const TURNS: [&str; 4] = ["turn, own run reported", "turn, guess reported", "turn, no report", "turn, another number"];
+const TURN_NUMBERS: [u8; 3] = [2, 3, 255];
 
 const STEPS: [&str; 6] = ["step 0", "step 1", "step 2", "step 3", "step 4", "step 5"];
 
@@ -480,6 +286,28 @@ impl Met {
         }
     }
 
+    /// Makes turns (R64) on copies of the record. The dice are their own, as those of lists are.
+    fn turn(&mut self, record: &Record, random: &Random) {
+        let mut dice = Dice::new(random.0, 64);
+        for _ in 0..3 {
+            let mut both = Both::of(record);
+            let (turn, lent) = (any_turn(&mut dice, &both.theirs), any_lent(&mut dice));
+            let (answer, _) = both.turn(&turn, &lent);
+            assert!(both.ours == *record || answer.refusal == 0, "R81: {turn:?} changed {record:?}");
+            self.answer(TURNS[TURN_NUMBERS.iter().position(|&number| number == turn.number).unwrap_or(3)], answer.refusal);
+        }
+    }
+
+    /// R66: turns have to be accepted and refused with each number that they can be.
+    fn turns_came_up(&self, out_of_form: bool) {
+        let refusals: [&[u8]; 4] = [&[0, 10, 11, 13, 16], &[0, 10, 11, 13, 16], &[0, 10], &[21]];
+        for (entry, refusals) in TURNS.into_iter().zip(refusals) {
+            for &refusal in refusals.iter().chain(out_of_form.then_some(&32)) {
+                assert!(self.answers.contains_key(&(entry, refusal)), "never answered {refusal}: {entry}");
+            }
+        }
+    }
+
     /// R6, R25: jobs have to be taken before sealing and after it, and runs of the latter started; and so have lists.
     fn inserts_came_up(&self) {
         let lists = ["insert all, none", "insert all", "a start of the last of a list"];
@@ -540,6 +368,7 @@ fn try_every_entry(record: &Record, random: &mut Random, met: &mut Met) -> Tally
     met.answer("copy out", both.copy_out(random.around(cells + 4), random.around(4)));
     met.insert(record, random.job(cells), random);
     met.insert_all(record, random);
+    met.turn(record, random);
     met.answer("seal", Both::of(record).seal(random.below(3) as u8));
     for number in 0..6 {
         let job = job_for(number, record, random);
@@ -599,6 +428,7 @@ fn damaged_records_are_refused_or_answered_soundly() {
     for entry in ["ask batch", "ask tally"] {
         assert!(of(entry, 32) > count / 10 && of(entry, 0) > count / 10, "both sorts of records have to come up");
     }
+    met.turns_came_up(true);
     met.inserts_came_up();
     met.choices_came_up();
     assert!(met.four.iter().all(|&times| times > 0), "something never came up with four accesses: {:?}", met.four);
@@ -622,63 +452,12 @@ fn jobs_in_any_state_are_answered_soundly() {
     met.print();
     assert_eq!(met.answers.get(&("ask batch", 32)), None, "all are in form");
     assert_eq!(met.answers.get(&("ask tally", 32)), None, "all are in form");
+    met.turns_came_up(false);
     met.inserts_came_up();
     met.choices_came_up();
     met.judged_each_way();
     assert!(met.handed.iter().all(|&times| times > 0), "no guess was handed so: {:?}", met.handed);
     assert!(met.tallies.iter().all(|&times| times > 0), "no tally was so: {:?}", met.tallies);
-}
-
-/// Sets of jobs at the edges of two words. Each has to come up as what a guess looked past.
-const EDGES: [(&str, u128); 8] = [
-    ("no jobs", 0),
-    ("job 0", 1),
-    ("job 63", 1 << 63),
-    ("job 64", 1 << 64),
-    ("job 126", 1 << 126),
-    ("jobs 63 and 64", 3 << 63),
-    ("jobs 0 and 126", 1 | 1 << 126),
-    ("jobs 0 to 126", (1 << 127) - 1),
-];
-
-/// A set of jobs before this one: one of EDGES, some of which only the last job can have; few, many, or those of one word alone.
-fn any_set(job: usize, random: &mut Random) -> u128 {
-    let bits = random.bits();
-    let set = match random.below(6) {
-        kind if kind < 2 || job == 127 => EDGES[random.below(EDGES.len())].1,
-        2 => bits & random.bits() & random.bits() & random.bits(),
-        3 => bits,
-        4 => bits >> 64,
-        _ => bits >> 64 << 64,
-    };
-    // Only jobs before it, or the record would be out of form.
-    set & ((1 << job) - 1)
-}
-
-/// The record with any jobs looked past; the guesses mostly out or stored, and few jobs, many or all settled.
-fn any_sets(record: &Record, random: &mut Random) -> Record {
-    let mut record = *record;
-    let settled = random.below(5);
-    for job in 0..record.job_count as usize {
-        let set = any_set(job, random);
-        record.runs[job].bypassed = JobSet { low: set as u64, high: (set >> 64) as u64 };
-        record.phase[job] = [0, 1, 1, 2, 2, 3][random.below(6)];
-        record.committed[job] = if random.below(4) < settled { 1 + random.below(2) as u8 } else { 0 };
-    }
-    record
-}
-
-/// A byte that asking a guess looks at: of the jobs looked past, often the one with the bit of the job itself.
-fn place_of_a_guess(record: &Record, random: &mut Random) -> usize {
-    let job = random.below(record.job_count.max(1) as usize);
-    let set = offset_of!(Record, runs) + job * size_of::<Run>() + offset_of!(Run, bypassed);
-    match random.below(7) {
-        0 => offset_of!(Record, job_count),
-        1 => offset_of!(Record, committed) + job,
-        2 => offset_of!(Record, phase) + job,
-        3 => set + job / 8,
-        _ => set + random.below(16),
-    }
 }
 
 /// How a job may stand that has looked past some by what its run says. Each has to come up of jobs below 64 and of others.

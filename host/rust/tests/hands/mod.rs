@@ -3,6 +3,7 @@
 
 use crate::theirs::{given_job, Both};
 use second_hand::lists::{Answer, Call};
+use second_hand::turns::{List, Turn};
 use second_hand::{engine, record};
 use sorghemi::{Batch, Report};
 
@@ -34,6 +35,16 @@ impl Hands {
     pub fn insert_all(&mut self, list: &record::JobList) -> record::Inserted {
         let answer = self.both.insert_all(list);
         assert_eq!(answer, list.on_batch(&mut self.third), "insert {list:?} left {:?}", self.both.ours);
+        answer
+    }
+
+    /// Makes the turn in all hands, with this in the lent list before it; they answer the same, and tell the same steps.
+    #[allow(dead_code)] // Only tests/turns.rs does.
+    pub fn turn(&mut self, turn: &Turn, lent: &List) -> (record::Turned, List) {
+        let answer = self.both.turn(turn, lent);
+        let mut list = *lent;
+        let third = turn.on_batch(&mut self.third, &mut list);
+        assert_eq!((third, list), answer, "{turn:?} left {:?}", self.both.ours);
         answer
     }
 }

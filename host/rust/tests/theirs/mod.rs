@@ -1,6 +1,7 @@
 //! One record in two hands: each call is made on both, and what they answer and leave has to be the same.
 
 use second_hand::sets::{GuessTold, Told};
+use second_hand::turns::{List, Turn};
 use second_hand::{record, tally};
 use sorghemi::raw::*;
 use sorghemi::{Access, Job, Record, Report, Tally};
@@ -40,6 +41,36 @@ pub fn given_list(list: &record::JobList) -> JobList {
 /// The library's list of jobs as the second hand reads it.
 pub fn read_list(list: &JobList) -> record::JobList {
     record::JobList { count: list.count, jobs: list.jobs.iter().map(read_job).collect() }
+}
+
+/// The second hand's list of steps in the library's form.
+pub fn given_steps(list: &List) -> StepList {
+    StepList { taken: list.map(|record::Taken { step, job, handed }| Taken { step, job, handed }) }
+}
+
+/// The library's list of steps as the second hand reads it.
+pub fn read_steps(list: &StepList) -> List {
+    list.taken.map(|Taken { step, job, handed }| record::Taken { step, job, handed })
+}
+
+/// Something lent, with bytes around it that nobody may touch.
+#[repr(C)]
+struct Around<T> {
+    before: [u64; 8],
+    lent: T,
+    after: [u64; 8],
+}
+
+impl<T> Around<T> {
+    fn of(lent: T) -> Around<T> {
+        Around { before: [0x5ca1_ab1e; 8], lent, after: [0x5ca1_ab1e; 8] }
+    }
+
+    /// What was lent, where nothing around it was touched.
+    fn back(self) -> T {
+        assert_eq!([self.before, self.after], [[0x5ca1_ab1e; 8]; 2], "more than what was lent was touched");
+        self.lent
+    }
 }
 
 /// The library's tally with the second hand's names.
@@ -110,6 +141,21 @@ impl Both {
         assert_eq!((by_value.refusal, by_value.handed, by_value.batch), (handed.refusal, handed.values, self.ours));
         self.same_record(&format!("step {number} of job {job}"));
         theirs
+    }
+
+    /// R64 to R66, with this in the lent list before it. What the turn answers, and the list after it.
+    pub fn turn(&mut self, turn: &Turn, lent: &List) -> (record::Turned, List) {
+        let (before, mut list) = (self.ours, *lent);
+        let (mut record, mut steps) = (Around::of(before), Around::of(given_steps(lent)));
+        let &Turn { number, job, values, mark, limit } = turn;
+        let report = Report { values, wrote: mark };
+        let answer = unsafe { sorghemi_turn(&mut record.lent, number, job, report, limit, &mut steps.lent) };
+        let theirs = turn.on_record(&mut self.theirs, &mut list);
+        assert_eq!((answer.refusal, answer.count), (theirs.refusal, theirs.count), "{turn:?} of {before:?}");
+        assert_eq!(read_steps(&steps.back()), list, "{turn:?} of {before:?}");
+        self.ours = record.back();
+        self.same_record(&format!("{turn:?}"));
+        (theirs, list)
     }
 
     pub fn choose(&self) -> Choice {
