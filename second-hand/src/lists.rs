@@ -286,13 +286,23 @@ impl Manner {
         }
     }
 
-    /// Many cells and many jobs on one of them or two, so that many can be started at once.
+    /// Many cells and many jobs, most of them on one of these, so that many can be started
+    /// at once.
     pub fn wide(dice: &mut Dice) -> Manner {
-        let cells = dice.pick(&[18, 24, 40, 64]);
         let jobs = match dice.below(4) {
             0 => FULL,
             _ => 14 + dice.below(40),
         };
+        Manner::wide_of(dice, jobs)
+    }
+
+    /// The same with as many jobs as a batch holds.
+    pub fn full(dice: &mut Dice) -> Manner {
+        Manner::wide_of(dice, FULL)
+    }
+
+    fn wide_of(dice: &mut Dice, jobs: usize) -> Manner {
+        let cells = dice.pick(&[18, 24, 40, 64]);
         let job = |dice: &mut Dice| {
             let modes = {
                 let most = dice.pick(&[1, 1, 1, 2, 4]);
