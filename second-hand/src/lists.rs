@@ -291,6 +291,7 @@ impl Manner {
     pub fn wide(dice: &mut Dice) -> Manner {
         let jobs = match dice.below(4) {
             0 => FULL,
+            1 => dice.pick(&[15, 16, 16, 17]),
             _ => 14 + dice.below(40),
         };
         Manner::wide_of(dice, jobs)
@@ -302,17 +303,20 @@ impl Manner {
     }
 
     fn wide_of(dice: &mut Dice, jobs: usize) -> Manner {
-        let cells = dice.pick(&[18, 24, 40, 64]);
-        let job = |dice: &mut Dice| {
-            let modes = {
-                let most = dice.pick(&[1, 1, 1, 2, 4]);
-                any_modes(dice, most, &[0, 1, 1, 2, 3])
-            };
-            job_of(dice, cells, 0, &modes, &[])
+        let cells = dice.pick(&[18, 40, 64, 64]);
+        // Few jobs have a cell each.
+        let job = |dice: &mut Dice, number: usize| {
+            let most = dice.pick(&[1, 1, 1, 2, 4]);
+            let modes = any_modes(dice, most, &[0, 1, 1, 2, 3]);
+            let mut job = job_of(dice, cells, 0, &modes, &[]);
+            if jobs < 18 {
+                (job.arity, job.accesses[0].0) = (1, number as u8);
+            }
+            job
         };
         Manner {
             heights: (0..cells).map(|_| height(dice)).collect(),
-            jobs: (0..jobs).map(|_| job(dice)).collect(),
+            jobs: (0..jobs).map(|number| job(dice, number)).collect(),
             early: dice.pick(&[jobs, jobs, jobs / 2]),
             guessing: u8::from(dice.percent(75)),
             by_rule: dice.percent(30),

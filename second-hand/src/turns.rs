@@ -138,7 +138,7 @@ pub fn any_limit(dice: &mut Dice) -> usize {
     match dice.below(8) {
         0 => dice.pick(&large),
         1 => dice.below(20),
-        2 => dice.pick(&[15, 16, 17]),
+        2 => dice.pick(&[15, 15, 16, 16, 17]),
         _ => dice.pick(&[0, 0, 1, 1, 1, 2, 2, 3, 8]),
     }
 }
@@ -192,12 +192,17 @@ pub fn any_turn(
         1 => 1,
         _ => mark as u8,
     };
+    // Where there are many jobs, more often such that lists become full.
+    let limit = match held >= 14 && dice.percent(30) {
+        true => dice.pick(&[15, 16, 17, 40, usize::MAX]),
+        false => any_limit(dice),
+    };
     Turn {
         number,
         job,
         values,
         mark,
-        limit: any_limit(dice),
+        limit,
     }
 }
 
@@ -230,7 +235,7 @@ impl Manner {
             1 | 2 => Manner::few_heights(dice),
             3 => Manner::picking(dice),
             4 => Manner::predicting(dice),
-            5 | 6 => Manner::rows(dice),
+            5 => Manner::rows(dice),
             _ => Manner::wide(dice),
         }
     }
