@@ -115,12 +115,18 @@ impl Worked {
         (answer, list[..usize::from(answer.count)].to_vec())
     }
 
-    /// R171 and R173 to R175.
+    /// R171 and R173 to R175; R45 and R183, which depend on the order of the steps.
     fn claim(&self) {
         let (record, jobs) = (&self.record, 0..self.ledger.jobs.len());
-        let settled = jobs.map(|job| record.ask_job(job));
-        let settled: Vec<(u8, u8)> = settled.map(|job| (job.committed, job.wrote)).collect();
+        let asked: Vec<_> = jobs.clone().map(|job| record.ask_job(job)).collect();
+        let settled: Vec<(u8, u8)> = asked.iter().map(|job| (job.committed, job.wrote)).collect();
         self.ledger.claim(&self.batch.cells(), &settled);
+        let judged: Vec<u8> = asked.iter().map(|job| job.validity).collect();
+        assert_eq!(judged, self.ledger.judged(), "R45");
+        for job in jobs {
+            let told = self.ledger.told(job);
+            assert_eq!(record.ask_looked_past(job), (0, told), "R183");
+        }
     }
 }
 
@@ -339,6 +345,9 @@ fn random_turns() {
                 after: &worked.record,
             };
             watch.made(&made, before.job_count < 20 || dice.percent(10));
+            if dice.percent(20) {
+                worked.claim();
+            }
         }
         worked.claim();
     }

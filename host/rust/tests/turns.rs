@@ -123,13 +123,18 @@ impl Morning {
         self.ledger.enter_turn(turn, answer.refusal, &list[..usize::from(answer.count)]);
     }
 
-    /// R171 and R173 to R175, as the library is asked; gives back how many jobs are settled.
+    /// R171 and R173 to R175, as the library is asked; and R45 and R183, which depend on the order in which a turn's steps are
+    /// entered. Gives back how many jobs are settled.
     fn claim(&self) -> usize {
-        let both = &self.hands.both;
+        let (both, jobs) = (&self.hands.both, 0..self.ledger.jobs.len());
         let cells: Vec<i32> = (0..both.theirs.cell_count.into()).map(|cell| both.ask_cell(cell).height).collect();
-        let jobs = (0..self.ledger.jobs.len()).map(|job| both.ask_job(job));
-        let settled: Vec<(u8, u8)> = jobs.map(|job| (job.committed, job.wrote)).collect();
+        let asked: Vec<raw::JobAnswer> = jobs.clone().map(|job| both.ask_job(job)).collect();
+        let settled: Vec<(u8, u8)> = asked.iter().map(|job| (job.committed, job.wrote)).collect();
         self.ledger.claim(&cells, &settled);
+        assert_eq!(asked.iter().map(|job| job.validity).collect::<Vec<u8>>(), self.ledger.judged(), "R45");
+        for job in jobs {
+            assert_eq!(both.ask_speculation(job), theirs::told((0, self.ledger.told(job))), "R183");
+        }
         settled.iter().filter(|(committed, _)| *committed != 0).count()
     }
 }
@@ -151,6 +156,9 @@ fn work(dice: &mut Dice, manner: &Manner, watch: &mut Watch) -> usize {
         if dice.percent(share) {
             let turn = manner.turn(dice, morning.record());
             morning.take(&turn, dice, watch);
+            if watch.turns % 10 == 0 {
+                morning.claim();
+            }
         } else {
             let call = manner.call(dice, morning.record());
             morning.make(&call);
