@@ -20,6 +20,7 @@ fn main() {
     survey_edges::writers();
     survey_edges::readers();
     survey_edges::runs();
+    survey_edges::judged();
     survey_edges::counts();
     pass_edges::chains_of_writers();
     pass_edges::chains_of_readers();

@@ -51,8 +51,7 @@ fn told(
     sure[127] = last.sure;
     back[127] = last.back;
     let idle = [0u8; 128];
-    let fresh = [0u8; 128];
-    let mut allowed = [0u8; 128];
+    let mut ranks = [0u8; 128];
     cellset::survey::survey(
         on,
         n,
@@ -63,14 +62,15 @@ fn told(
         &settled,
         &idle,
         &phases,
-        &fresh,
-        &mut allowed,
+        &mut ranks,
     );
-    allowed
+    ranks
 }
 
 pub fn writers() {
-    lines::heading(b"the survey of 128 writers of one cell: 1 more than the step, or 0");
+    lines::heading(
+        b"the survey of 128 writers of one cell: 4 to be judged, 2 for step 0, 1 for step 1",
+    );
     let writer = Cells::of(job::of_one(5, WRITE));
     let none = [0u8; 128];
     let early = told(128, false, writer, writer, none, none);
@@ -119,6 +119,36 @@ pub fn runs() {
     let first = told(128, true, writer, reader, none, phases);
     lines::number(b"survey", b"the first one out, job 0", first[0]);
     lines::number(b"survey", b"the first one out, job 127", first[127]);
+}
+
+pub fn judged() {
+    lines::heading(b"the rank of a job whose guess is judged: 3 for step 4, 2 for step 0");
+    lines::number(
+        b"judged_rank",
+        b"stored, stands",
+        cellset::survey::judged_rank(0, 2, false),
+    );
+    lines::number(
+        b"judged_rank",
+        b"stored, has fallen",
+        cellset::survey::judged_rank(0, 2, true),
+    );
+    lines::number(
+        b"judged_rank",
+        b"out, stands",
+        cellset::survey::judged_rank(0, 1, false),
+    );
+    lines::number(
+        b"judged_rank",
+        b"out, has fallen",
+        cellset::survey::judged_rank(0, 1, true),
+    );
+    let beside = b"out, has fallen, its own run out";
+    lines::number(
+        b"judged_rank",
+        beside,
+        cellset::survey::judged_rank(1, 1, true),
+    );
 }
 
 pub fn counts() {

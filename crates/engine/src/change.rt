@@ -262,9 +262,9 @@ fn forwarded(job: Job, place: usize, source: u8, writer: Job, run: Run, presumed
         let height = presumed[place];
         return height;
     }
-    let reported = run.reported;
+    let values = run.reported;
     let access = job.accesses[place];
-    runs::value_for(writer, reported, access.cell)
+    runs::value_for(writer, values, access.cell)
 }
 
 /// The guess, given where its values come from, and for each place the job that it is taken from and that job's run.
