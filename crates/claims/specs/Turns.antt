@@ -12,8 +12,7 @@ use Rattle.engine.specs.declared.Batch.{Batch}
 use Rattle.engine.specs.Form.{inForm}
 use Rattle.engine.specs.Opening.{opened}
 use Rattle.engine.specs.Chooser.{chosen}
-use Rattle.engine.specs.Perform.{perform}
-use Rattle.engine.specs.InsertAllLaws.{accepts}
+use Rattle.engine.specs.Perform.{perform, accepts}
 use Rattle.engine.specs.Turn.{noReport, isReport, noStep, Turned, turned}
 use Rattle.engine.specs.TurnCalls.{callBy, reportCalls, stepCalls, turnCalls, handedAlong, handedIn}
 use Rattle.claims.specs.Trace.{batchAfter, batchOf, ledgerOf}

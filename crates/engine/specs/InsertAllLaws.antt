@@ -1,7 +1,7 @@
 -- An accepted list of jobs is so many accepted calls that insert one, performed in order: a list of calls as demand 3 speaks of.
 use Prim.Native.Nat.{ℕ, zero, suc, _+_}
 use native.Mathlib.Omega.{arith}
-use mathlib.Core.Bool.{Bool, true, _&&_}
+use mathlib.Core.Bool.{true}
 use mathlib.Core.List.{List, [], _∷_}
 use mathlib.Core.Path.{_≡_, refl}
 use lib.Dec.{eqb}
@@ -13,22 +13,13 @@ use Rattle.rules.specs.Call.{Call, insert}
 use Rattle.engine.specs.declared.Batch.{Batch}
 use Rattle.engine.specs.Form.{inForm}
 use Rattle.engine.specs.Opening.{inserted}
-use Rattle.engine.specs.Perform.{perform}
+use Rattle.engine.specs.Perform.{perform, performed, accepts}
 use Rattle.engine.specs.InsertAll.{insertedFrom, insertedAll}
 
 -- The calls that insert the n jobs of the list from place k on, in order.
 unfoldable pub insertCalls : List Job → ℕ → ℕ → List Call
 insertCalls jobs k zero = []
 insertCalls jobs k (suc n) = insert (jobAt jobs k) ∷ insertCalls jobs (k + 1) n
-
--- The batch that calls lead to, each performed on what the one before left, and whether each is accepted.
-unfoldable pub performed : Batch → List Call → Batch
-performed b [] = b
-performed b (call ∷ calls) = performed (perform b call .batch) calls
-
-unfoldable pub accepts : Batch → List Call → Bool
-accepts b [] = true
-accepts b (call ∷ calls) = eqb (perform b call .refusal) 0 && accepts (perform b call .batch) calls
 
 from-performed : (before b : Batch) (jobs : List Job) (k n : ℕ) → insertedFrom before b jobs k n .refusal ≡ 0
     → (insertedFrom before b jobs k n .batch ≡ performed b (insertCalls jobs k n)) × (accepts b (insertCalls jobs k n) ≡ true)

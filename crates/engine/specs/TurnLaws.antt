@@ -26,9 +26,8 @@ use Rattle.engine.specs.declared.change.Change.{Change}
 use Rattle.engine.specs.Form.{inForm}
 use Rattle.engine.specs.Steps.{withJobChanged}
 use Rattle.engine.specs.Record.{snapshotOf}
-use Rattle.engine.specs.Perform.{perform}
+use Rattle.engine.specs.Perform.{perform, performed, accepts}
 use Rattle.engine.specs.OpeningLaws.{allowed-tests, next-passed}
-use Rattle.engine.specs.InsertAllLaws.{performed, accepts}
 use Rattle.engine.specs.ByNumber.{stepped, step-0, step-1, step-2, step-3, step-4}
 use Rattle.engine.specs.Chooser.{chosen}
 use Rattle.engine.specs.ChooserLaws.{Means, out-of-form, unsealed, commits, starts, speculates, nothing, chosen-means}

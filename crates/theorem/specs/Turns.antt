@@ -10,8 +10,7 @@ use Rattle.rules.specs.Call.{Call}
 use Rattle.engine.specs.declared.Batch.{Batch}
 use Rattle.engine.specs.declared.Report.{Report}
 use Rattle.engine.specs.Opening.{opened}
-use Rattle.engine.specs.Perform.{perform}
-use Rattle.engine.specs.InsertAllLaws.{performed}
+use Rattle.engine.specs.Perform.{perform, performed}
 use Rattle.engine.specs.Turn.{turned}
 use Rattle.engine.specs.TurnCalls.{reportCalls, turnCalls}
 use Rattle.engine.specs.TurnLaws.{turn-refusal, turn-none, turn-unchanged, turn-performed, turn-handed, turn-ended, turn-blank}
