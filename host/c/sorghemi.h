@@ -6,7 +6,7 @@
  * sorghemi_batch_ do the same on a record behind a pointer. What the calls do is said in docs/RULES.md, and what a host
  * with threads has to know in host/README.md.
  *
- * Stack: a step touches 109 KB, no other call on a batch more, and the answer to a plan 146 KB (host/README.md has the
+ * Stack: a step touches 106 KB, no other call on a batch more, and the answer to a plan 119 KB (host/README.md has the
  * figures). A thread with 256 KiB has enough.
  */
 #ifndef SORGHEMI_H

@@ -45,7 +45,7 @@
 //!
 //! # Stack
 //!
-//! A step touches 109 KB of stack, no other call on a batch more, and [`answer`] 146 KB (host/README.md has the figures). A
+//! A step touches 106 KB of stack, no other call on a batch more, and [`answer`] 119 KB (host/README.md has the figures). A
 //! thread with 256 KiB has enough; Rust's have 2 MiB if nothing else is said.
 #![warn(missing_docs)]
 
