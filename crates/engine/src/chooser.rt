@@ -9,7 +9,9 @@ ghost use Rattle.engine.specs.Chooser.{better, noPick, pickBelow, refuse
 ghost use Rattle.engine.specs.Ranks.{stepOf, lowestBelow, highestBelow};
 use crate::Batch;
 use crate::Choice;
+use crate::form::counts_out;
 use crate::form::larger;
+use crate::form::run_out;
 use crate::form::top_of;
 use cellset::Cells;
 use cellset::survey::judged_rank;
@@ -165,74 +167,105 @@ pub(crate) fn pick_for(
 impl Batch {
     /// R60 to R62: names an allowed step 4, else 0, else 1, on the job with the longest chain; of equal chains on the job with
     /// the fewest accesses, and of those on the lowest. Refused with 10, with 19 where there is none, or with 32.
-    /// The columns are filled here, for the jobs that are not committed: a function that took the record would copy it.
+    /// The record is checked here, as `is_in_form` checks it, and the columns are filled here, for the jobs that are not
+    /// committed: a function that took the record would copy it.
     pub fn choose(self) -> Choice
         ensures { λ r. ⌜ r ≡ chosen self ⌝ }
     {
-        if self.is_in_form() {
-            if self.sealed == 0 {
-                return refused(10);
-            }
-            let n = self.job_count as usize;
-            let mut names = [0u64; 128];
-            let mut written = [0u64; 128];
-            let mut sure = [0u64; 128];
-            let mut back = [0u64; 128];
-            let mut arities = [0u8; 128];
-            let mut j: usize = 0;
-            while j < n {
-                if self.committed[j] != 0 {
-                    j += 1;
-                    continue;
-                }
-                let job = self.jobs[j];
-                let cells = Cells::of(job);
-                names[j] = cells.named;
-                written[j] = cells.written;
-                sure[j] = cells.sure;
-                back[j] = cells.back;
-                arities[j] = job.arity;
-                j += 1;
-            }
-            let on = self.speculating != 0;
-            let mut ranks = [0u8; 128];
-            cellset::survey::survey(
-                on,
-                n,
-                &names,
-                &written,
-                &sure,
-                &back,
-                &self.committed,
-                &self.running,
-                &self.phase,
-                &mut ranks,
-            );
-            let mut k: usize = 0;
-            while k < n {
-                if ranks[k] != 4 {
-                    k += 1;
-                    continue;
-                }
-                let job = self.jobs[k];
-                let run = self.runs[k];
-                let handed = run.handed;
-                let stale = runs::stale::is_stale(job, handed, &self.cells);
-                let rank = judged_rank(self.running[k], self.phase[k], stale);
-                ranks[k] = rank;
-                k += 1;
-            }
-            let top = top_of(&ranks, n);
-            if top == 0 {
-                return refused(19);
-            }
-            let first = lowest_of(top, n, &ranks);
-            let jobs = self.jobs;
-            let chains = passes::chain_lengths_from(jobs, n, first as usize);
-            let pick = pick_for(top, n, &ranks, &chains, &arities);
-            let step = step_of(top);
-            return named(step, pick);
+        if counts_out(
+            self.cell_count,
+            self.job_count,
+            self.sealed,
+            self.speculating,
+        ) {
+            return refused(32);
         }
-        refused(32)
+        let n = self.job_count as usize;
+        if 2 < top_of(&self.committed, n) {
+            return refused(32);
+        }
+        if 1 < top_of(&self.running, n) {
+            return refused(32);
+        }
+        if 3 < top_of(&self.phase, n) {
+            return refused(32);
+        }
+        let mut i: usize = 0;
+        while i < n {
+            let job = self.jobs[i];
+            if admission::is_refused(job, self.cell_count) {
+                return refused(32);
+            }
+            i += 1;
+        }
+        let mut k: usize = 0;
+        while k < n {
+            let run = self.runs[k];
+            if run_out(run, k) {
+                return refused(32);
+            }
+            k += 1;
+        }
+        if self.sealed == 0 {
+            return refused(10);
+        }
+        let mut names = [0u64; 128];
+        let mut written = [0u64; 128];
+        let mut sure = [0u64; 128];
+        let mut back = [0u64; 128];
+        let mut arities = [0u8; 128];
+        let mut j: usize = 0;
+        while j < n {
+            if self.committed[j] != 0 {
+                j += 1;
+                continue;
+            }
+            let job = self.jobs[j];
+            let cells = Cells::of(job);
+            names[j] = cells.named;
+            written[j] = cells.written;
+            sure[j] = cells.sure;
+            back[j] = cells.back;
+            arities[j] = job.arity;
+            j += 1;
+        }
+        let on = self.speculating != 0;
+        let mut ranks = [0u8; 128];
+        cellset::survey::survey(
+            on,
+            n,
+            &names,
+            &written,
+            &sure,
+            &back,
+            &self.committed,
+            &self.running,
+            &self.phase,
+            &mut ranks,
+        );
+        let mut p: usize = 0;
+        while p < n {
+            if ranks[p] != 4 {
+                p += 1;
+                continue;
+            }
+            let job = self.jobs[p];
+            let run = self.runs[p];
+            let handed = run.handed;
+            let stale = runs::stale::is_stale(job, handed, &self.cells);
+            let rank = judged_rank(self.running[p], self.phase[p], stale);
+            ranks[p] = rank;
+            p += 1;
+        }
+        let top = top_of(&ranks, n);
+        if top == 0 {
+            return refused(19);
+        }
+        let first = lowest_of(top, n, &ranks);
+        let jobs = self.jobs;
+        let chains = passes::chain_lengths_from(jobs, n, first as usize);
+        let pick = pick_for(top, n, &ranks, &chains, &arities);
+        let step = step_of(top);
+        named(step, pick)
     }
 }
