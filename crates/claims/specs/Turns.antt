@@ -14,7 +14,8 @@ use Rattle.engine.specs.Opening.{opened}
 use Rattle.engine.specs.Chooser.{chosen}
 use Rattle.engine.specs.Perform.{perform, accepts}
 use Rattle.engine.specs.Turn.{noReport, isReport, noStep, Turned, turned}
-use Rattle.engine.specs.TurnCalls.{callBy, reportCalls, stepCalls, turnCalls, handedAlong, handedIn}
+use Rattle.engine.specs.ByNumber.{callOf}
+use Rattle.engine.specs.TurnCalls.{reportCalls, stepCalls, turnCalls, handedAlong, handedIn}
 use Rattle.claims.specs.Trace.{batchAfter, batchOf, ledgerOf}
 use Rattle.claims.specs.Demand3.{Demand3}
 use Rattle.claims.specs.Chooser.{StepAccepted}
@@ -33,7 +34,7 @@ pub record Turns (b : Batch) (number j : ℕ) (report : Report) (limit : ℕ) (t
   -- and fewer only where no step 4, 0 or 1 is accepted any more, on any job
   pub ended : turn .refusal ≡ 0 → turn .count < min limit 16 → (i step : ℕ) → StepAccepted (turn .batch) i step → ⊥
   -- R66: it is refused as its report is; without a report as the chooser is, but that 19 is no refusal; any other number is 21
-  pub as-report : isReport number ≡ true → turn .refusal ≡ perform b (callBy number j report) .refusal
+  pub as-report : isReport number ≡ true → turn .refusal ≡ perform b (callOf number j report) .refusal
   pub as-chooser : number ≡ noReport → turn .refusal ≡ cond (eqb (chosen b .refusal) 19) 0 (chosen b .refusal)
   pub no-report : eqb number noReport ≡ false → isReport number ≡ false → turn .refusal ≡ cond (inForm b) 21 32
   -- and a refused one takes no step and changes nothing

@@ -1,32 +1,25 @@
 -- R161: the calls that a turn counts as. All is read off what a host sees of it: what it asked for, and what was answered.
-use Prim.Native.Nat.{ℕ, zero, suc}
+use Prim.Native.Nat.{ℕ}
 use mathlib.Core.Bool.{cond}
 use mathlib.Core.List.{List, [], _∷_, _++_, map}
 use lib.Dec.{eqb}
 use lib.IntN.{ℤ}
 use lib.ListN.{take}
-use Rattle.rules.specs.Call.{Call, startOwn, startSpeculation, reportOwn, reportSpeculation, commit}
+use Rattle.rules.specs.Call.{Call}
 use Rattle.engine.specs.declared.Report.{Report}
 use Rattle.engine.specs.declared.Batch.{Batch}
 use Rattle.engine.specs.declared.Taken.{Taken}
+use Rattle.engine.specs.ByNumber.{callOf}
 use Rattle.engine.specs.Perform.{perform}
 use Rattle.engine.specs.Turn.{noReport, blankReport, Turned}
 
--- The call that a step by its number is.
-abbrev pub callBy : ℕ → ℕ → Report → Call
-callBy zero j report = startOwn j
-callBy (suc zero) j report = startSpeculation j
-callBy (suc (suc zero)) j report = reportOwn j (report .values) (report .wrote)
-callBy (suc (suc (suc zero))) j report = reportSpeculation j (report .values) (report .wrote)
-callBy (suc (suc (suc (suc n)))) j report = commit j
-
 -- The report, where there is one.
 abbrev pub reportCalls : ℕ → ℕ → Report → List Call
-reportCalls number j report = cond (eqb number noReport) [] (callBy number j report ∷ [])
+reportCalls number j report = cond (eqb number noReport) [] (callOf number j report ∷ [])
 
 -- The first `count` steps of the list, in their order.
 abbrev pub callTaken : Taken → Call
-callTaken taken = callBy (taken .step) (taken .job) blankReport
+callTaken taken = callOf (taken .step) (taken .job) blankReport
 
 abbrev pub stepCalls : List Taken → ℕ → List Call
 stepCalls steps count = map callTaken (take count steps)

@@ -28,7 +28,7 @@ use Rattle.engine.specs.Steps.{withJobChanged}
 use Rattle.engine.specs.Record.{snapshotOf}
 use Rattle.engine.specs.Perform.{perform, performed, accepts}
 use Rattle.engine.specs.OpeningLaws.{allowed-tests, next-passed}
-use Rattle.engine.specs.ByNumber.{stepped, step-0, step-1, step-2, step-3, step-4}
+use Rattle.engine.specs.ByNumber.{stepped, callOf, counts-as}
 use Rattle.engine.specs.Chooser.{chosen}
 use Rattle.engine.specs.ChooserLaws.{Means, out-of-form, unsealed, commits, starts, speculates, nothing, chosen-means}
 use Rattle.engine.specs.Change.{changeOn, withChange}
@@ -38,7 +38,7 @@ use Rattle.engine.specs.Turn.{noStep, noSteps, Turned, endedWith, turnFr
 use Rattle.engine.specs.TurnChange.{noJobRun, noJobRuns, nextChange, nextRun, changesAt, changesFrom, firstChanged, firstStored}
 use Rattle.engine.specs.TurnChange.{refusedTurn, turnChange, runsStored, withTurn, turnMade}
 use Rattle.engine.specs.TurnForm.{chosen-accepted, change-accepted, change-keeps-form, Kept}
-use Rattle.engine.specs.TurnCalls.{callBy, reportCalls, callTaken, stepCalls, turnCalls, handedAlong, handedIn}
+use Rattle.engine.specs.TurnCalls.{reportCalls, callTaken, stepCalls, turnCalls, handedAlong, handedIn}
 
 -- R66: how an accepted turn begins: without a report, on a sealed record in form, or with one that its step accepts.
 pub data Begins (b : Batch) (number j : ℕ) (report : Report) : Type 0 where
@@ -190,33 +190,23 @@ handed-append b [] rest = refl
 handed-append b (call ∷ calls) rest =
     ap (λ (values : List (List ℤ)). perform b call .handed ∷ values) (handed-append (perform b call .batch) calls rest)
 
--- A step by its number is the call.
-by-number : (b : Batch) (number j : ℕ) (report : Report) → number < 5
-    → stepped b number j (report .values) (report .wrote) ≡ perform b (callBy number j report)
-by-number b zero j report h = step-0 b j (report .values) (report .wrote)
-by-number b (suc zero) j report h = step-1 b j (report .values) (report .wrote)
-by-number b (suc (suc zero)) j report h = step-2 b j (report .values) (report .wrote)
-by-number b (suc (suc (suc zero))) j report h = step-3 b j (report .values) (report .wrote)
-by-number b (suc (suc (suc (suc zero)))) j report h = step-4 b j (report .values) (report .wrote)
-by-number b (suc (suc (suc (suc (suc n))))) j report h = absurd (omega (arith, h))
-
 -- An accepted change is that of a call that is accepted.
 call-made : (b : Batch) (number j : ℕ) (report : Report) → changeOn b number j report .refusal ≡ 0
-    → (stepped b number j (report .values) (report .wrote) ≡ perform b (callBy number j report))
-    × (perform b (callBy number j report) .refusal ≡ 0)
+    → (stepped b number j (report .values) (report .wrote) ≡ perform b (callOf number j report))
+    × (perform b (callOf number j report) .refusal ≡ 0)
 call-made b number j report e =
-    let same = by-number b number j report (change-accepted b number j report e .number-in) in
+    let same = counts-as b number j report (change-accepted b number j report e .number-in) in
     (same, ap (λ (s : Started). s .refusal) (sym same ∙ step-is-change b number j report) ∙ e)
 
 -- So a report is refused as its call is.
 pub report-refusal : (b : Batch) (number j : ℕ) (report : Report) → isReport number ≡ true
-    → reported b number j report .refusal ≡ perform b (callBy number j report) .refusal
+    → reported b number j report .refusal ≡ perform b (callOf number j report) .refusal
 unfolding reported
 report-refusal b number j report is =
     if-or (eqb number 2)
-    (λ t. rw (eqb-true number 2 t) (ap (λ (s : Started). s .refusal) (by-number b 2 j report (omega arith))))
+    (λ t. rw (eqb-true number 2 t) (ap (λ (s : Started). s .refusal) (counts-as b 2 j report (omega arith))))
     (λ f.
-    rw (eqb-true number 3 (rw f at is)) (ap (λ (s : Started). s .refusal) (by-number b 3 j report (omega arith))))
+    rw (eqb-true number 3 (rw f at is)) (ap (λ (s : Started). s .refusal) (counts-as b 3 j report (omega arith))))
 
 -- A turn without a report is refused as the chooser is, but that 19 is no refusal.
 pub silent-refusal : (b : Batch) (j : ℕ) (report : Report)
