@@ -1,6 +1,6 @@
 //! The engine for hosts in other languages: functions exported under C's calling convention over a batch record that
 //! the host owns. A record goes in by value and comes back with the answer; a step also has the lent form, in which
-//! the host lends its record and the step changes it, and a list of jobs is inserted in that form alone.
+//! the host lends its record and the step changes it; a list of jobs is inserted, and a turn taken, in that form alone.
 
 mod layout;
 mod opening;
