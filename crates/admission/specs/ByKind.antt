@@ -1,10 +1,11 @@
 -- Whether a job is refused, told by its kind: a kind other than 0 has 1, 2 or 3 accesses of known modes.
-use Prim.Native.Nat.{ℕ, _≤_}
+use Prim.Native.Nat.{ℕ, zero, suc, _<_, _≤_}
 use native.Mathlib.Omega.{arith}
-use mathlib.Core.Bool.{Bool, true, false, not, _||_}
-use mathlib.Core.Path.{_≡_, refl, sym, _∙_}
+use mathlib.Core.Bool.{Bool, true, false, not, _&&_, _||_}
+use mathlib.Core.Path.{_≡_, refl, sym, ap, _∙_}
 use mathlib.Core.List.{[], _∷_}
 use lib.Dec.{eqb, leb, ltb}
+use lib.ListN.{length, getD, List·getD-eq-default}
 use borrow.Author.Tests.{eqb-true, le-ltb}
 use Rattle.laws.specs.Search.{anyBelow}
 use Rattle.laws.specs.SearchLaws.{if-or, or-true}
@@ -12,27 +13,31 @@ use Rattle.laws.specs.Refusal.{when, firstOf}
 use Rattle.dependence.specs.declared.Access.{Access}
 use Rattle.dependence.specs.declared.Job.{Job}
 use Rattle.dependence.specs.Job.{accessAt, anyAccess}
-use Rattle.admission.specs.Admission.{cellOutside, modeOutside, cellBefore, cellTwice, kindFits, firstModes, jobRefusal}
+use Rattle.admission.specs.Admission.{cellOutside, modeOutside, cellBefore, cellTwice, modesByKind, kindModes, kindFits, firstModes, jobRefusal}
+use Rattle.admission.specs.declared.Shape.{Shape}
 
 -- The access has another mode than m, or a cell that is not one of the first n.
 abbrev pub accessOut : Access → ℕ → ℕ → Bool
 accessOut access n m = not (eqb (access .mode) m) || leb n (access .cell)
 
--- The job has another number of accesses, an access that is out, or a cell twice.
-abbrev pub oneRefused : Job → ℕ → ℕ → Bool
-oneRefused job n m₀ = not (eqb (job .arity) 1) || accessOut (accessAt job 0) n m₀
+-- What a kind asks of its jobs; no accesses are told of kind 0, and of a kind that there is not.
+abbrev pub shapeOf : ℕ → Shape
+shapeOf kind =
+    record { count = length (kindModes kind); first = getD (kindModes kind) 0 0; second = getD (kindModes kind) 1 0 }
 
-abbrev pub twoRefused : Job → ℕ → ℕ → ℕ → Bool
-twoRefused job n m₀ m₁ =
-    not (eqb (job .arity) 2) || (accessOut (accessAt job 0) n m₀ || (accessOut (accessAt job 1) n m₁ || cellBefore job 1 0))
+-- The job has another number of accesses, an access that is out, or a cell twice: as far as the shape has accesses.
+unfoldable pub shapeRefused : Job → ℕ → Shape → Bool
+shapeRefused job n shape =
+    not (eqb (job .arity) (shape .count))
+    || (accessOut (accessAt job 0) n (shape .first)
+    || (not (eqb (shape .count) 1)
+    && (accessOut (accessAt job 1) n (shape .second)
+    || (cellBefore job 1 0
+    || (not (eqb (shape .count) 2) && (accessOut (accessAt job 2) n 0 || (cellBefore job 2 0 || cellBefore job 2 1)))))))
 
-abbrev pub threeRefused : Job → ℕ → ℕ → ℕ → ℕ → Bool
-threeRefused job n m₀ m₁ m₂ =
-    not (eqb (job .arity) 3)
-    || (accessOut (accessAt job 0) n m₀
-    || (accessOut (accessAt job 1) n m₁
-    || (accessOut (accessAt job 2) n m₂
-    || (cellBefore job 1 0 || (cellBefore job 2 0 || cellBefore job 2 1)))))
+-- A kind that there is not has no modes listed.
+pub no-modes : (kind : ℕ) → 6 < kind → kindModes kind ≡ []
+no-modes kind h = List·getD-eq-default modesByKind [] h
 
 -- A refusal is one of its tests.
 one-of : (a b c d e f : Bool)
@@ -137,7 +142,13 @@ module _ (job : Job) (n : ℕ) where
   abbrev place : ℕ → Access
   place i = accessAt job i
 
-  pub one-law : (m₀ : ℕ) → m₀ ≤ 2 → kindFits job ≡ firstModes job 1 (m₀ ∷ []) → Refused ≡ oneRefused job n m₀
+  abbrev other : ℕ → Bool
+  other count = not (eqb (job .arity) count)
+
+  abbrev out : ℕ → ℕ → Bool
+  out i mode = accessOut (place i) n mode
+
+  one-law : (m₀ : ℕ) → m₀ ≤ 2 → kindFits job ≡ firstModes job 1 (m₀ ∷ []) → Refused ≡ (other 1 || out 0 m₀)
   unfolding jobRefusal anyBelow
   one-law m₀ h₀ fits =
       one-of _ _ _ _ _ _
@@ -146,7 +157,7 @@ module _ (job : Job) (n : ℕ) where
       (λ t. rw (eqb-true (job .arity) 1 t) (one-place _ _ _ (mode-in (place 0 .mode) m₀ h₀)))
       (λ f. rw f (another-arity job n)))
 
-  pub two-law : (m₀ m₁ : ℕ) → m₀ ≤ 2 → m₁ ≤ 2 → kindFits job ≡ firstModes job 2 (m₀ ∷ m₁ ∷ []) → Refused ≡ twoRefused job n m₀ m₁
+  two-law : (m₀ m₁ : ℕ) → m₀ ≤ 2 → m₁ ≤ 2 → kindFits job ≡ firstModes job 2 (m₀ ∷ m₁ ∷ []) → Refused ≡ (other 2 || (out 0 m₀ || (out 1 m₁ || cellBefore job 1 0)))
   unfolding jobRefusal anyBelow
   two-law m₀ m₁ h₀ h₁ fits =
       one-of _ _ _ _ _ _
@@ -159,8 +170,8 @@ module _ (job : Job) (n : ℕ) where
       (mode-in (place 0 .mode) m₀ h₀) (mode-in (place 1 .mode) m₁ h₁)))
       (λ f. rw f (another-arity job n)))
 
-  pub three-law : (m₀ m₁ m₂ : ℕ) → m₀ ≤ 2 → m₁ ≤ 2 → m₂ ≤ 2 → kindFits job ≡ firstModes job 3 (m₀ ∷ m₁ ∷ m₂ ∷ [])
-      → Refused ≡ threeRefused job n m₀ m₁ m₂
+  three-law : (m₀ m₁ m₂ : ℕ) → m₀ ≤ 2 → m₁ ≤ 2 → m₂ ≤ 2 → kindFits job ≡ firstModes job 3 (m₀ ∷ m₁ ∷ m₂ ∷ [])
+      → Refused ≡ (other 3 || (out 0 m₀ || (out 1 m₁ || (out 2 m₂ || (cellBefore job 1 0 || (cellBefore job 2 0 || cellBefore job 2 1))))))
   unfolding jobRefusal anyBelow
   three-law m₀ m₁ m₂ h₀ h₁ h₂ fits =
       one-of _ _ _ _ _ _
@@ -174,3 +185,33 @@ module _ (job : Job) (n : ℕ) where
       (cellBefore job 1 0) (cellBefore job 2 0) (cellBefore job 2 1)
       (mode-in (place 0 .mode) m₀ h₀) (mode-in (place 1 .mode) m₁ h₁) (mode-in (place 2 .mode) m₂ h₂)))
       (λ f. rw f (another-arity job n)))
+
+  -- So the shape that the kind asks for tells it.
+  pub shape-law : (shapeOf (job .kind) .count ≡ 0 → ⊥) → Refused ≡ shapeRefused job n (shapeOf (job .kind))
+  unfolding shapeRefused
+  shape-law some = cases (job .kind) refl some
+    where
+      none : (a b : Bool) → (a || (b || false)) ≡ (a || b)
+      none true b = refl
+      none false true = refl
+      none false false = refl
+
+      later : (r o z : Bool) → (o || (r || z)) ≡ (r || (o || z))
+      later true true z = refl
+      later true false z = refl
+      later false true z = refl
+      later false false z = refl
+
+      cases : (kind : ℕ) → job .kind ≡ kind → (shapeOf kind .count ≡ 0 → ⊥) → Refused ≡ shapeRefused job n (shapeOf kind)
+      cases zero e some = absurd (some refl)
+      cases (suc zero) e some = one-law 1 (omega arith) (rw e) ∙ sym (none (other 1) (out 0 1))
+      cases (suc (suc zero)) e some = one-law 1 (omega arith) (rw e) ∙ sym (none (other 1) (out 0 1))
+      cases (suc (suc (suc zero))) e some =
+          two-law 2 0 (omega arith) (omega arith) (rw e) ∙ sym (ap (λ (x : Bool). other 2 || (out 0 2 || x)) (none (out 1 0) (cellBefore job 1 0)))
+      cases (suc (suc (suc (suc zero)))) e some = one-law 2 (omega arith) (rw e) ∙ sym (none (other 1) (out 0 2))
+      cases (suc (suc (suc (suc (suc zero))))) e some =
+          three-law 1 0 0 (omega arith) (omega arith) (omega arith) (rw e)
+          ∙ ap (λ (x : Bool). other 3 || (out 0 1 || (out 1 0 || x))) (later (cellBefore job 1 0) (out 2 0) (cellBefore job 2 0 || cellBefore job 2 1))
+      cases (suc (suc (suc (suc (suc (suc zero)))))) e some =
+          two-law 2 2 (omega arith) (omega arith) (rw e) ∙ sym (ap (λ (x : Bool). other 2 || (out 0 2 || x)) (none (out 1 2) (cellBefore job 1 0)))
+      cases (suc (suc (suc (suc (suc (suc (suc kind))))))) e some = absurd (some refl)

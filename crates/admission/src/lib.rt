@@ -7,7 +7,7 @@ ghost use Rattle.laws.specs.Search.{anyBelow};
 ghost use Rattle.laws.specs.Refusal.{firstOf};
 ghost use lib.Dec.{eqb};
 ghost use Rattle.admission.specs.Admission.{cellBefore, faultsAt, firstModes, kindFits, refusals, jobRefusal};
-ghost use Rattle.admission.specs.ByKind.{accessOut, oneRefused, twoRefused, threeRefused};
+ghost use Rattle.admission.specs.ByKind.{accessOut, shapeOf, shapeRefused};
 use dependence::Access;
 use dependence::Job;
 use dependence::PREDICTED_WRITE;
@@ -166,55 +166,87 @@ fn access_out(access: Access, cell_count: u8, mode: u8) -> bool
     cell_count <= access.cell
 }
 
-/// Whether a job whose kind has one access, of the mode given, is refused.
-fn one_refused(job: Job, cell_count: u8, mode: u8) -> bool
-    ensures { λ r. ⌜ r ≡ oneRefused job «cell_count» mode ⌝ }
-{
-    if job.arity != 1 {
-        return true;
-    }
-    let access = job.accesses[0];
-    access_out(access, cell_count, mode)
+/// What a kind asks of its jobs: how many accesses, and the modes of the first and of the second. A third is a read.
+struct Shape {
+    count: u8,
+    first: u8,
+    second: u8,
 }
 
-/// The same for two accesses.
-fn two_refused(job: Job, cell_count: u8, first: u8, second: u8) -> bool
-    ensures { λ r. ⌜ r ≡ twoRefused job «cell_count» first second ⌝ }
+/// What the kind asks for. Kind 0 leaves it to the job, and other kinds there are not: then no accesses are told.
+fn shape_of(kind: u8) -> Shape
+    ensures { λ r. ⌜ r ≡ shapeOf kind ⌝ }
 {
-    if job.arity != 2 {
+    match kind {
+        0 => Shape {
+            count: 0,
+            first: NONE,
+            second: NONE,
+        },
+        1 => Shape {
+            count: 1,
+            first: WRITE,
+            second: NONE,
+        },
+        2 => Shape {
+            count: 1,
+            first: WRITE,
+            second: NONE,
+        },
+        3 => Shape {
+            count: 2,
+            first: UNCERTAIN_WRITE,
+            second: READ,
+        },
+        4 => Shape {
+            count: 1,
+            first: UNCERTAIN_WRITE,
+            second: NONE,
+        },
+        5 => Shape {
+            count: 3,
+            first: WRITE,
+            second: READ,
+        },
+        6 => Shape {
+            count: 2,
+            first: UNCERTAIN_WRITE,
+            second: UNCERTAIN_WRITE,
+        },
+        7..=255 => Shape {
+            count: 0,
+            first: NONE,
+            second: NONE,
+        },
+    }
+}
+
+/// Whether a job of a kind that asks for the shape is refused: only the cells are left to test where the modes are those.
+fn shape_refused(job: Job, cell_count: u8, shape: Shape) -> bool
+    ensures { λ r. ⌜ r ≡ shapeRefused job «cell_count» shape ⌝ }
+{
+    if job.arity != shape.count {
         return true;
     }
     let a = job.accesses[0];
-    if access_out(a, cell_count, first) {
+    if access_out(a, cell_count, shape.first) {
         return true;
+    }
+    if shape.count == 1 {
+        return false;
     }
     let b = job.accesses[1];
-    if access_out(b, cell_count, second) {
-        return true;
-    }
-    a.cell == b.cell
-}
-
-/// The same for three accesses.
-fn three_refused(job: Job, cell_count: u8, first: u8, second: u8, third: u8) -> bool
-    ensures { λ r. ⌜ r ≡ threeRefused job «cell_count» first second third ⌝ }
-{
-    if job.arity != 3 {
-        return true;
-    }
-    let a = job.accesses[0];
-    if access_out(a, cell_count, first) {
-        return true;
-    }
-    let b = job.accesses[1];
-    if access_out(b, cell_count, second) {
-        return true;
-    }
-    let c = job.accesses[2];
-    if access_out(c, cell_count, third) {
+    if access_out(b, cell_count, shape.second) {
         return true;
     }
     if a.cell == b.cell {
+        return true;
+    }
+    if shape.count == 2 {
+        return false;
+    }
+    let c = job.accesses[2];
+    if access_out(c, cell_count, READ) {
         return true;
     }
     if a.cell == c.cell {
@@ -223,18 +255,21 @@ fn three_refused(job: Job, cell_count: u8, first: u8, second: u8, third: u8) -> 
     b.cell == c.cell
 }
 
-/// Whether the job is refused, and not why: a kind other than 0 has accesses of known modes, and leaves only the cells to test.
+/// Whether a job of any kind is refused. (A function of its own, so that a job is copied for this alone.)
+fn other_refused(job: Job, cell_count: u8) -> bool
+    ensures { λ r. ⌜ r ≡ not (eqb (jobRefusal job «cell_count») 0) ⌝ }
+{
+    job_refusal(job, cell_count) != 0
+}
+
+/// Whether the job is refused, and not why. (A match with the tests in its arms would jump by the kind, and such jumps are
+/// foreseen badly: what a kind asks for is looked up instead.)
 pub fn is_refused(job: Job, cell_count: u8) -> bool
     ensures { λ r. ⌜ r ≡ not (eqb (jobRefusal job «cell_count») 0) ⌝ }
 {
-    let kind = job.kind;
-    match kind {
-        1 => one_refused(job, cell_count, WRITE),
-        2 => one_refused(job, cell_count, WRITE),
-        3 => two_refused(job, cell_count, UNCERTAIN_WRITE, READ),
-        4 => one_refused(job, cell_count, UNCERTAIN_WRITE),
-        5 => three_refused(job, cell_count, WRITE, READ, READ),
-        6 => two_refused(job, cell_count, UNCERTAIN_WRITE, UNCERTAIN_WRITE),
-        _ => job_refusal(job, cell_count) != 0,
+    let shape = shape_of(job.kind);
+    if shape.count == 0 {
+        return other_refused(job, cell_count);
     }
+    shape_refused(job, cell_count, shape)
 }

@@ -4,7 +4,7 @@ use Prim.Native.Nat.{ℕ, zero, suc, _+_, _<_, _≤_}
 use native.Mathlib.Omega.{arith}
 use native.Mathlib.Numerals.{add-one}
 use mathlib.Core.Bool.{Bool, true, false, cond, not, _&&_, _||_}
-use mathlib.Core.List.{List}
+use mathlib.Core.List.{[]}
 use mathlib.Core.Path.{_≡_, refl, sym, _∙_, ap}
 use lib.Dec.{eqb, ltb}
 use borrow.Author.Tests.{eqb-true, eq-eqb, ltb-true, ltb-false, lt-ltb, le-ltb, le-leb, lt-leb, ne-eqb}
@@ -17,7 +17,9 @@ use Rattle.dependence.specs.declared.Job.{Job}
 use Rattle.dependence.specs.Job.{jobAt}
 use Rattle.dependence.specs.Ready.{blocks, ready}
 use Rattle.rules.specs.Speculation.{sourceMissing}
+use Rattle.rules.specs.Refusals.{stepTests}
 use Rattle.rules.specs.SpeculationLaws.{judged-else}
+use Rattle.walk.specs.Origins.{AllPlain}
 use Rattle.engine.specs.declared.Batch.{Batch}
 use Rattle.engine.specs.declared.Answer.{Answer}
 use Rattle.engine.specs.declared.Started.{Started}
@@ -25,9 +27,11 @@ use Rattle.engine.specs.declared.Report.{Report}
 use Rattle.engine.specs.declared.change.Change.{Change}
 use Rattle.engine.specs.Record.{runAt, snapshotOf}
 use Rattle.engine.specs.Form.{inForm}
+use Rattle.engine.specs.FormLaws.{form-walks}
 use Rattle.engine.specs.Opening.{answer}
+use Rattle.engine.specs.OpeningLaws.{allowed-form}
 use Rattle.engine.specs.Steps.{stepRefusal, start, startedOwn, startedSpeculation, reportedOwn, reportedSpeculation, committedBy}
-use Rattle.engine.specs.StepLaws.{step-early, step-then, step-place, ready-is}
+use Rattle.engine.specs.StepLaws.{step-early, step-then, step-held, step-place, ready-is}
 use Rattle.engine.specs.InvalidRun.{invalid-is}
 use Rattle.engine.specs.ByNumber.{withoutValues, noSuchStep, stepped}
 use Rattle.engine.specs.Change.{speculationStart, standingAt, guessAt, askedBelow, plainChange, changeFor, refusedChange, earlyRefusal, changeOn, changed}
@@ -159,22 +163,38 @@ step-is-change b number j report =
     (λ t. rw t (step-changes b number j report small (eqb-true (stepRefusal b j) 0 t)))
     (λ g. rw g (early-refused b number j report small g))))
 
+-- What is not refused before its job is looked at is on a job held, of a record in form.
+module _ (b : Batch) (number j : ℕ) (e : earlyRefusal b number j ≡ 0) where
+  early-passed : stepRefusal b j ≡ 0
+  early-passed = if-or (ltb 4 number) (λ t. absurd (neither (inForm b) (rw t at e))) (λ f. sym (early-is b number j f) ∙ e)
+    where
+      neither : (t : Bool) → _≡_ {A = ℕ} (cond t 21 32) 0 → ⊥
+      neither true e = absurd (omega (arith, e))
+      neither false e = absurd (omega (arith, e))
+
+  pub early-place : j < 128
+  early-place = step-place b j early-passed
+
+  pub early-walks : AllPlain (b .jobs) j
+  early-walks = form-walks b (allowed-form b (stepTests (snapshotOf b) j []) early-passed) j (step-held b j early-passed)
+
 -- An accepted step is on a job for which the columns have a place.
 pub change-place : (b : Batch) (number j : ℕ) (report : Report) → changeOn b number j report .refusal ≡ 0 → j < 128
 unfolding changeOn
 change-place b number j report e =
-    if-or (eqb (earlyRefusal b number j) 0) (λ t. step-place b j (held (eqb-true (earlyRefusal b number j) 0 t)))
+    if-or (eqb (earlyRefusal b number j) 0) (λ t. early-place b number j (eqb-true (earlyRefusal b number j) 0 t))
     (λ f. clash (eq-eqb _ _ (rw f at e)) f)
-  where
-    neither : (t : Bool) → _≡_ {A = ℕ} (cond t 21 32) 0 → ⊥
-    neither true e = absurd (omega (arith, e))
-    neither false e = absurd (omega (arith, e))
 
-    held : earlyRefusal b number j ≡ 0 → stepRefusal b j ≡ 0
-    held e = if-or (ltb 4 number) (λ t. absurd (neither (inForm b) (rw t at e))) (λ f. sym (early-is b number j f) ∙ e)
-
--- The change as the code comes to it: each number that is refused early, and the change itself.
+-- The change as the code comes to it: refused early or not, each number that is refused so, and the change itself.
 module _ (b : Batch) (number j : ℕ) (report : Report) where
+  pub change-early : eqb (earlyRefusal b number j) 0 ≡ false → changeOn b number j report ≡ refusedChange (earlyRefusal b number j)
+  unfolding changeOn
+  change-early e = rw e
+
+  pub change-late : earlyRefusal b number j ≡ 0 → changeOn b number j report ≡ changeFor b number j report
+  unfolding changeOn
+  change-late e = rw e
+
   pub out-of-form-refused : inForm b ≡ false → refusedChange 32 ≡ changeOn b number j report
   unfolding changeOn
   out-of-form-refused out = rw out

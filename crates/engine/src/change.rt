@@ -295,7 +295,7 @@ pub(crate) fn guess_from(
 
 impl Batch {
     /// What step 1 comes to on job `j`, which stands so and is ready or not.
-    fn speculation_change(self, j: usize, now: Standing, ready: bool) -> Change
+    pub(crate) fn speculation_change(self, j: usize, now: Standing, ready: bool) -> Change
         requires { ⌜ (j < 128) × AllPlain (self .jobs) j ⌝ }
         ensures { λ r. ⌜ r ≡ speculationStart (not (eqb (self .speculating) 0)) now (self .cells) ready (sourceMissing (snapshotOf self) j) (guessAt self j) ⌝ }
     {

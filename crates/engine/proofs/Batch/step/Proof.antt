@@ -6,63 +6,105 @@ use borrow.Author.Tests.{ne-eqb}
 use borrow.Author.Needs.{needs}
 use Rattle.engine.specs.declared.Batch.{Batch}
 use Rattle.engine.specs.declared.Report.{Report}
-use Rattle.engine.specs.declared.change.Change.{Change}
 use Rattle.engine.specs.Steps.{withJobChanged}
-use Rattle.engine.specs.Change.{changeOn}
-use Rattle.engine.specs.ChangeLaws.{step-is-change, change-place}
+use Rattle.engine.specs.Change.{earlyRefusal}
+use Rattle.engine.specs.ChangeLaws.{step-is-change, early-place, early-walks, change-early, change-late}
 use Rattle.engine.proofs.Batch.step.Statement.{statement}
 use Rattle.engine.proofs.Batch.step.Tie as tie
 
-change-for-requires : tie.Need-change-for-requires
-change-for-requires c κs = search needs
+early-refusal-requires : tie.Need-early-refusal-requires
+early-refusal-requires c κs = search needs
 
--- the job has a place where the change is accepted
-placed : (b : Batch) (number j : ℕ) (report : Report) {change : Change} → change ≡ changeOn b number j report → change .refusal ≡ 0 → j < 128
-placed b number j report e free = change-place b number j report (sym (ap (λ (x : Change). x .refusal) e) ∙ free)
+-- the job has a place where nothing was refused early
+placed : (b : Batch) (number j : ℕ) {refusal : ℕ} → refusal ≡ earlyRefusal b number j → refusal ≡ 0 → j < 128
+placed b number j e free = early-place b number j (sym e ∙ free)
 
--- refused
+-- refused before the job is looked at
 returns : tie.Need-returns
 returns c =
     let a = c .before .before .args in
     let report : Report = record { values = a .values; wrote = a .wrote } in
-    rw (step-is-change (a .t1) (a .number) (a .j) report, ← c .before .change-for .ensures, ne-eqb _ _ (c .if1 .taken))
+    let other = ne-eqb _ _ (c .if1 .taken) in
+    let told = c .before .early-refusal .ensures in
+    rw (step-is-change (a .t1) (a .number) (a .j) report, change-early (a .t1) (a .number) (a .j) report (rw (← told) other), ← told, other)
 
-mul-run : tie.Need-mul-run
-mul-run c = omega (arith, placed _ _ _ _ (c .before .before .before .before .before .change-for .ensures) (c .before .before .before .before .if1 .left))
+change-at-requires : tie.Need-change-at-requires
+change-at-requires c κs =
+    let a = c .before .before .args in
+    let free = sym (c .before .early-refusal .ensures) ∙ c .if1 .left in
+    (early-place (a .t1) (a .number) (a .j) free, early-walks (a .t1) (a .number) (a .j) free)
 
-element-set-from-run : tie.Need-element-set-from-run
-element-set-from-run c = omega (arith, placed _ _ _ _ (c .before .before .before .before .before .change-for .ensures) (c .before .before .before .before .if1 .left))
-
-element-write-self : tie.Need-element-write-self
-element-write-self c = omega (arith, placed _ _ _ _ (c .before .before .before .before .before .change-for .ensures) (c .before .before .before .before .if1 .left))
-
-element-write-self-2 : tie.Need-element-write-self-2
-element-write-self-2 c = omega (arith, placed _ _ _ _ (c .before .before .before .before .before .change-for .ensures) (c .before .before .before .before .if1 .left))
-
-element-write-self-3 : tie.Need-element-write-self-3
-element-write-self-3 c = omega (arith, placed _ _ _ _ (c .before .before .before .before .before .change-for .ensures) (c .before .before .before .before .if1 .left))
-
--- accepted
+-- refused on the job
 returns-2 : tie.Need-returns-2
-unfolding withJobChanged
 returns-2 c =
-    let a = c .before .before .before .before .before .before .args in
+    let k = c .before .before in
+    let a = k .before .before .args in
     let report : Report = record { values = a .values; wrote = a .wrote } in
+    let free = sym (k .before .early-refusal .ensures) ∙ k .if1 .left in
     rw (
       step-is-change (a .t1) (a .number) (a .j) report,
-      ← c .before .before .before .before .before .change-for .ensures,
-      c .before .before .before .before .if1 .left,
+      change-late (a .t1) (a .number) (a .j) report free,
+      ← c .before .change-at .ensures,
+      ne-eqb _ _ (c .if2 .taken),
+    )
+
+mul-run : tie.Need-mul-run
+mul-run c =
+    let k = c .before .before .before .before .before .before in
+    let a = k .before .before .args in
+    omega (arith, placed (a .t1) (a .number) (a .j) (k .before .early-refusal .ensures) (k .if1 .left))
+
+element-set-from-run : tie.Need-element-set-from-run
+element-set-from-run c =
+    let k = c .before .before .before .before .before .before in
+    let a = k .before .before .args in
+    omega (arith, placed (a .t1) (a .number) (a .j) (k .before .early-refusal .ensures) (k .if1 .left))
+
+element-write-self : tie.Need-element-write-self
+element-write-self c =
+    let k = c .before .before .before .before .before .before in
+    let a = k .before .before .args in
+    omega (arith, placed (a .t1) (a .number) (a .j) (k .before .early-refusal .ensures) (k .if1 .left))
+
+element-write-self-2 : tie.Need-element-write-self-2
+element-write-self-2 c =
+    let k = c .before .before .before .before .before .before in
+    let a = k .before .before .args in
+    omega (arith, placed (a .t1) (a .number) (a .j) (k .before .early-refusal .ensures) (k .if1 .left))
+
+element-write-self-3 : tie.Need-element-write-self-3
+element-write-self-3 c =
+    let k = c .before .before .before .before .before .before in
+    let a = k .before .before .args in
+    omega (arith, placed (a .t1) (a .number) (a .j) (k .before .early-refusal .ensures) (k .if1 .left))
+
+-- accepted
+returns-3 : tie.Need-returns-3
+unfolding withJobChanged
+returns-3 c =
+    let m = c .before .before .before .before in
+    let k = m .before .before in
+    let a = k .before .before .args in
+    let report : Report = record { values = a .values; wrote = a .wrote } in
+    let free = sym (k .before .early-refusal .ensures) ∙ k .if1 .left in
+    rw (
+      step-is-change (a .t1) (a .number) (a .j) report,
+      change-late (a .t1) (a .number) (a .j) report free,
+      ← m .before .change-at .ensures,
+      m .if2 .left,
     )
 
 pub step-spec : {M : Type 1} → statement M
 step-spec =
     tie.close
     (tie.spec
-    change-for-requires
+    early-refusal-requires
     returns
+    change-at-requires
+    returns-2
     mul-run
     element-set-from-run
     element-write-self
     element-write-self-2
     element-write-self-3
-    returns-2)
+    returns-3)
