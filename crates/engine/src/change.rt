@@ -1,6 +1,6 @@
-//! What a step changes: one body that checks the record, decides and tells the change, and only reads. Whoever takes the step
-//! stores the change. A helper that took the record by value would copy it, so the loops of the check stand here once more,
-//! and helpers are handed one job, one run or a column.
+//! What a step changes: one body that checks the record, decides and tells the change, and only reads. The lent step, which
+//! alone calls it, stores the change. A helper that took the record by value would copy it, so the loops of the check stand
+//! here once more, and helpers are handed one job, one run or a column.
 
 ghost use mathlib.Core.Path.{_≡_};
 ghost use mathlib.Core.Bool.{not, _&&_};
