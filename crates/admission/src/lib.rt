@@ -173,51 +173,30 @@ struct Shape {
     second: u8,
 }
 
+/// The shape of so many accesses with these modes.
+fn asks(count: u8, first: u8, second: u8) -> Shape
+    ensures { λ r. ⌜ r ≡ record { count = count; first = first; second = second } ⌝ }
+{
+    Shape {
+        count,
+        first,
+        second,
+    }
+}
+
 /// What the kind asks for. Kind 0 leaves it to the job, and other kinds there are not: then no accesses are told.
 fn shape_of(kind: u8) -> Shape
     ensures { λ r. ⌜ r ≡ shapeOf kind ⌝ }
 {
     match kind {
-        0 => Shape {
-            count: 0,
-            first: NONE,
-            second: NONE,
-        },
-        1 => Shape {
-            count: 1,
-            first: WRITE,
-            second: NONE,
-        },
-        2 => Shape {
-            count: 1,
-            first: WRITE,
-            second: NONE,
-        },
-        3 => Shape {
-            count: 2,
-            first: UNCERTAIN_WRITE,
-            second: READ,
-        },
-        4 => Shape {
-            count: 1,
-            first: UNCERTAIN_WRITE,
-            second: NONE,
-        },
-        5 => Shape {
-            count: 3,
-            first: WRITE,
-            second: READ,
-        },
-        6 => Shape {
-            count: 2,
-            first: UNCERTAIN_WRITE,
-            second: UNCERTAIN_WRITE,
-        },
-        7..=255 => Shape {
-            count: 0,
-            first: NONE,
-            second: NONE,
-        },
+        0 => asks(0, NONE, NONE),
+        1 => asks(1, WRITE, NONE),
+        2 => asks(1, WRITE, NONE),
+        3 => asks(2, UNCERTAIN_WRITE, READ),
+        4 => asks(1, UNCERTAIN_WRITE, NONE),
+        5 => asks(3, WRITE, READ),
+        6 => asks(2, UNCERTAIN_WRITE, UNCERTAIN_WRITE),
+        7..=255 => asks(0, NONE, NONE),
     }
 }
 
