@@ -1,4 +1,5 @@
 //! Admission: which jobs may be inserted into a batch, as far as the job and the number of cells decide it.
+#![tactic(auto)]
 
 ghost use Rattle.std.specs.Prelude.{◌≡◌, not, ◌||◌, ◌<◌, ◌≤◌, eqb};
 ghost use Rattle.laws.specs.Search.{any_below};
@@ -12,7 +13,7 @@ use dependence::{Access, Job, PREDICTED_WRITE, READ, UNCERTAIN_WRITE, WRITE};
 const NONE: u8 = 0;
 
 /// What is wrong with the access at one place of a job. Of a place that is not in use nothing is.
-#[derive(Drop)]
+#[derive(Clone, Copy)]
 struct Faults {
     cell: bool,
     mode: bool,
@@ -161,7 +162,7 @@ fn access_out(access: Access, cell_count: u8, mode: u8) -> bool
 }
 
 /// What a kind asks of its jobs: how many accesses, and the modes of the first and of the second. A third is a read.
-#[derive(Drop)]
+#[derive(Clone, Copy)]
 struct Shape {
     count: u8,
     first: u8,

@@ -1,4 +1,5 @@
 //! The whole program: from the bytes it reads to the bytes it writes.
+#![tactic(auto)]
 
 ghost use Rattle.std.specs.Prelude.{◌≤◌, ◌≡◌, length, take};
 ghost use Rattle.io.specs.Counts.{IsPrefixLen};

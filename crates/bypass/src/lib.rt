@@ -1,5 +1,6 @@
 //! What a speculative run bypassed: how many jobs and the lowest of them, and the same of those that are still open, which
 //! are not committed.
+#![tactic(auto)]
 
 ghost use Rattle.std.specs.Prelude.{◌≡◌, length};
 ghost use Rattle.jobset.specs.JobSet.{has_job};
@@ -12,7 +13,7 @@ use jobset::{JobSet, Least};
 
 /// R78: what is told of a set of jobs: its size, whether it has a lowest job, and that job, 0 where there is none.
 #[repr(C)]
-#[derive(Drop)]
+#[derive(Clone, Copy)]
 pub struct SetAnswer {
     pub size: u8,
     pub present: bool,
@@ -22,7 +23,7 @@ pub struct SetAnswer {
 /// What asking a job's speculative run answers: the jobs that it bypassed, and the open ones among them. All are 0 where it
 /// is refused.
 #[repr(C)]
-#[derive(Drop)]
+#[derive(Clone, Copy)]
 pub struct SpeculationAnswer {
     pub refusal: u8,
     pub bypassed: SetAnswer,

@@ -1,4 +1,5 @@
 //! Sets of cells, for cell numbers below 64: a word each, so that the cells of two jobs are compared without a loop.
+#![tactic(auto)]
 
 ghost use Rattle.std.specs.Prelude.{◌≡◌, cond, ◌<◌, min};
 ghost use Rattle.std.specs.Int.Bits.{bit_or};
@@ -10,7 +11,7 @@ pub mod survey;
 
 /// Of the cells of a job, each as a bit of a word: those that it names, those that it may write, those that it surely writes,
 /// and those that a speculative run of it looks back for.
-#[derive(Drop)]
+#[derive(Clone, Copy)]
 pub struct Cells {
     pub named: u64,
     pub written: u64,

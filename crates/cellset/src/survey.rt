@@ -9,7 +9,7 @@ use crate::Cells;
 
 /// Of the jobs passed that are not committed: the cells that they name, those that they may write, and those whose nearest
 /// sure writer among them has no stored report.
-#[derive(Drop)]
+#[derive(Clone, Copy)]
 struct Earlier {
     named: u64,
     written: u64,

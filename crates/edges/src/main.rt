@@ -1,4 +1,5 @@
 //! Calls the public functions of the lower layers at their edges and prints what they answer, a line each.
+#![tactic(auto)]
 
 mod admission_edges;
 mod conflict_edges;

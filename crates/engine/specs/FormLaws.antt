@@ -1,7 +1,7 @@
 -- What a record in form promises, for the entries.
 use Rattle.std.specs.Prelude.{ℕ, ◌<◌, ◌≤◌, true, false, not, ◌||◌, ◌≡◌, eqb, leb, ltb}
 use Rattle.std.proofs.Common.{arith, ltb-false, leb-false, eqb-true}
-use Rattle.std.proofs.lemmas.Bool.{eqb-false, not_false}
+use Rattle.std.proofs.lemmas.Bool.{eqb-false, not-false}
 use Rattle.laws.specs.Search.{any_below}
 use Rattle.laws.specs.SearchLaws.{any_fails, or_left, or_right, not_true}
 use Rattle.dependence.specs.declared.Job.{Job}
@@ -68,7 +68,7 @@ module _ (b : Batch) (form : in_form b ≡ true) where
       admitted : job_refusal job cells ≡ 0
       admitted =
           eqb-true (job_refusal job cells) 0
-          (not_false (eqb (job_refusal job cells) 0) (or_left (not (eqb (job_refusal job cells) 0)) _ (form_job j h)))
+          (not-false (eqb (job_refusal job cells) 0) (or_left (not (eqb (job_refusal job cells) 0)) _ (form_job j h)))
 
       is_used : (i : ℕ) → in_use job i ≡ true → i < job.arity
       is_used i used = leb-false job.arity i (not_true (leb job.arity i) used)

@@ -7,7 +7,7 @@ use Rattle.std.proofs.Math.Bool.{not}
 use Rattle.std.proofs.Math.Path.{◌≡◌, refl}
 use Rattle.std.proofs.Math.ListN.{length-set}
 use Rattle.std.proofs.Math.Seq.{get_or-set_same, get_or-set_other}
-use borrow.Author.Tests.{leb-false, eqb-true, le-leb, lt-leb, le-ltb, ne_eqb, eq-eqb, not_false}
+use borrow.Author.Tests.{leb-false, eqb-true, le-leb, lt-leb, le-ltb, ne_eqb, eq-eqb, not-false}
 use Rattle.laws.specs.SearchLaws.{if-or, clash, not_true, any_absent}
 use Rattle.laws.specs.Refusal.{first_of}
 use Rattle.dependence.specs.declared.Job.{Job}
@@ -147,7 +147,7 @@ module _ (held cells : ℕ) (jobs : List Job) where
   pub look_more : (k count : ℕ) → k < count → held + k < 128 → not (eqb (job_refusal (job_at jobs k) cells) 0) ≡ false
       → refused_from held cells jobs k (count - k) ≡ refused_from held cells jobs (k + 1) (count - (k + 1))
   look_more k count h room admitted =
-      look k count h ∙ rw (lt-leb 128 (held + k) room, not_false (eqb (job_refusal (job_at jobs k) cells) 0) admitted)
+      look k count h ∙ rw (lt-leb 128 (held + k) room, not-false (eqb (job_refusal (job_at jobs k) cells) 0) admitted)
 
   -- Where no job is refused, no place is named, and there is room for each.
   pub look_accepted : (k n : ℕ) → held + k ≤ 128 → (refused_from held cells jobs k n).refusal ≡ 0

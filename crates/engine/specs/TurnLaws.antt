@@ -6,7 +6,7 @@ use Rattle.std.proofs.Math.Bool.{false}
 use Rattle.std.proofs.lemmas.List.{map-append}
 use Rattle.std.proofs.Math.Path.{refl}
 use Rattle.std.proofs.Math.Dec.{eqb}
-use Rattle.std.proofs.lemmas.Bool.{not_false}
+use Rattle.std.proofs.lemmas.Bool.{not-false}
 use Rattle.laws.specs.SearchLaws.{if-or, clash, not_true}
 use Rattle.rules.specs.Call.{Call}
 use Rattle.rules.specs.Refusals.{step_tests}
@@ -215,7 +215,7 @@ silent_refusal_lem b j report = cases (chosen b) (chosen_means b)
 
     cases : (choice : Choice) → Means b choice → silent_refusal b ≡ cond (eqb choice.refusal 19) 0 choice.refusal
     cases choice (out_of_form f) = rw f
-    cases choice (unsealed f s) = rw (f, not_false (eqb b.sealed 0) s)
+    cases choice (unsealed f s) = rw (f, not-false (eqb b.sealed 0) s)
     cases choice (commits f s pick best) = going f s
     cases choice (starts f s n pick best) = going f s
     cases choice (speculates f s n m pick best) = going f s

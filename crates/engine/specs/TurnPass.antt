@@ -6,7 +6,7 @@ use Rattle.std.proofs.Math.Bool.{true, false, not}
 use Rattle.std.proofs.Math.Path.{refl, ap}
 use Rattle.std.proofs.Math.Dec.{eqb, eqb-suc-zero}
 use Rattle.std.proofs.Math.Seq.{get_or-set_same, get_or-set_other}
-use borrow.Author.Tests.{eqb-true, eqb-false, ne_eqb, not_false}
+use borrow.Author.Tests.{eqb-true, eqb-false, ne_eqb, not-false}
 use Rattle.laws.specs.Refusal.{Refusal, when, first_of}
 use Rattle.laws.specs.Search.{any_below}
 use Rattle.laws.specs.RefusalLaws.{passed}
@@ -185,7 +185,7 @@ module _ (b : Batch) (p : ℕ) (report : Report) where
   is_free = ready b.jobs b.committed p
 
   unsettled : (how rest : Bool) → (not how || rest) ≡ false → how ≡ true
-  unsettled how rest e = not_false how (or_left (not how) rest e)
+  unsettled how rest e = not-false how (or_left (not how) rest e)
 
   own_passed : (change_for b 0 p report).refusal ≡ 0 → (open_at b p ≡ true) × (is_free ≡ true)
   unfolding change_for
@@ -196,7 +196,7 @@ module _ (b : Batch) (p : ℕ) (report : Report) where
       ∷ when (not is_free) 15
       ∷ when ((is_free && is_live waiting.phase) && not (invalid_run is_free waiting.phase (job_at b.jobs p) (run_at b p) b.cells)) 17
       ∷ []) (tt, (tt, (tt, tt))) e in
-      (unsettled (eqb waiting.committed 0) _ t.0, not_false is_free t.1.0)
+      (unsettled (eqb waiting.committed 0) _ t.0, not-false is_free t.1.0)
 
   commit_passed : (change_for b 4 p report).refusal ≡ 0 → (open_at b p ≡ true) × (is_free ≡ true)
   unfolding change_for
@@ -207,7 +207,7 @@ module _ (b : Batch) (p : ℕ) (report : Report) where
       ∷ when (not is_free) 15
       ∷ when (invalid_run is_free waiting.phase (job_at b.jobs p) (run_at b p) b.cells) 18
       ∷ []) (tt, (tt, (tt, tt))) e in
-      (unsettled (eqb waiting.committed 0) _ t.0, not_false is_free t.1.0)
+      (unsettled (eqb waiting.committed 0) _ t.0, not-false is_free t.1.0)
 
   guess_passed : (change_for b 1 p report).refusal ≡ 0
       → (open_at b p ≡ true) × (waiting.phase ≡ 0) × (is_free ≡ false) × (source_missing (snapshot_of b) p ≡ false)
@@ -222,7 +222,7 @@ module _ (b : Batch) (p : ℕ) (report : Report) where
       ∷ []) (tt, (tt, (tt, (tt, tt)))) e in (
         unsettled (eqb waiting.committed 0) _ t.1.0,
         eqb-true waiting.phase 0
-            (not_false (never_started waiting.phase)
+            (not-false (never_started waiting.phase)
             (or_right (not (eqb waiting.running 0)) (not (never_started waiting.phase))
             (or_right (is_committed waiting.committed) _ t.1.0))),
         t.1.1.0,

@@ -23,7 +23,7 @@ use jobset::JobSet;
 use walk::origins::Origins;
 
 /// How a job stands: how it was committed, whether its own run is out, and the phase of its speculative one.
-#[derive(Drop)]
+#[derive(Clone, Copy)]
 pub struct Standing {
     pub committed: u8,
     pub running: u8,
@@ -32,7 +32,7 @@ pub struct Standing {
 
 /// What a step comes to: the number of its refusal, or 0 and then the values handed out, the cells, and the run and the
 /// standing of its job. Where the number is not 0, nothing is changed, and what else stands here means nothing.
-#[derive(Drop)]
+#[derive(Clone, Copy)]
 pub struct Change {
     pub refusal: u8,
     pub handed: [i32; 4],

@@ -10,7 +10,7 @@ use cellset::Cells;
 use cellset::survey::judged_rank;
 
 /// A job, the length of its chain and how many accesses it has; length 0 where no job is picked.
-#[derive(Drop)]
+#[derive(Clone, Copy)]
 pub(crate) struct Pick {
     pub job: u8,
     chain: u8,

@@ -8,7 +8,7 @@ use crate::opening::blank_run;
 use crate::{Batch, InsertedAll, JobList};
 
 /// The refusal of a job of a list, and its place there; zeros where no job is refused.
-#[derive(Drop)]
+#[derive(Clone, Copy)]
 struct FirstRefused {
     refusal: u8,
     at: u8,

@@ -1,4 +1,5 @@
 //! The batch engine: a record that goes in by value and comes back with each answer.
+#![tactic(auto)]
 
 use dependence::Job;
 use jobset::JobSet;
@@ -17,7 +18,7 @@ mod turn;
 /// A run of a job: the values handed out and the report on it. Of a speculative run also where its values came from:
 /// for each place one more than the number of the job it was forwarded from, 0 for the cell itself, and the jobs bypassed.
 #[repr(C)]
-#[derive(Drop)]
+#[derive(Clone, Copy)]
 pub struct Run {
     pub handed: [i32; 4],
     pub reported: [i32; 4],
@@ -29,7 +30,7 @@ pub struct Run {
 /// A batch. The first `cell_count` cells and the first `job_count` places of each column are in use.
 /// A job has one run at a time: starting its own run takes the place of its speculative one.
 #[repr(C)]
-#[derive(Drop)]
+#[derive(Clone, Copy)]
 pub struct Batch {
     pub cell_count: u8,
     pub job_count: u8,
@@ -50,7 +51,7 @@ pub struct Batch {
 
 /// What a worker reports: a value for each access, and 1 if the maybe-write cells were written, else 0.
 #[repr(C)]
-#[derive(Drop)]
+#[derive(Clone, Copy)]
 pub struct Report {
     pub values: [i32; 4],
     pub wrote: u8,
@@ -58,7 +59,7 @@ pub struct Report {
 
 /// What a call answers that hands nothing out: 0 or the number of its refusal, and the batch.
 #[repr(C)]
-#[derive(Drop)]
+#[derive(Clone, Copy)]
 pub struct Answer {
     pub refusal: u8,
     pub batch: Batch,
@@ -66,7 +67,7 @@ pub struct Answer {
 
 /// A list of jobs: the first `count` of `jobs`, in their order. What stands after them means nothing.
 #[repr(C)]
-#[derive(Drop)]
+#[derive(Clone, Copy)]
 pub struct JobList {
     pub count: usize,
     pub jobs: [Job; 128],
@@ -74,7 +75,7 @@ pub struct JobList {
 
 /// What inserting a list answers: 0, or the number of the refusal and which job of the list it was, and the batch.
 #[repr(C)]
-#[derive(Drop)]
+#[derive(Clone, Copy)]
 pub struct InsertedAll {
     pub refusal: u8,
     pub at: u8,
@@ -83,7 +84,7 @@ pub struct InsertedAll {
 
 /// A step that a turn took: its number 4, 0 or 1, its job, and the values handed to the run that it started, 0 each for step 4.
 #[repr(C)]
-#[derive(Drop)]
+#[derive(Clone, Copy)]
 pub struct Taken {
     pub step: u8,
     pub job: u8,
@@ -92,13 +93,13 @@ pub struct Taken {
 
 /// The steps of a turn, in their order. The places after the last one hold zeros.
 #[repr(C)]
-#[derive(Drop)]
+#[derive(Clone, Copy)]
 pub struct StepList {
     pub taken: [Taken; 16],
 }
 
 /// A job and the run that it holds after a step on it.
-#[derive(Drop)]
+#[derive(Clone, Copy)]
 pub struct JobRun {
     pub job: u8,
     pub run: Run,
@@ -107,7 +108,7 @@ pub struct JobRun {
 /// What a turn comes to: the number of its refusal, or 0 and then its steps and what is to be stored of it: the first `stored`
 /// of the runs `changed`, each in the place of its job, the cells and the jobs' states. Where the number is not 0, nothing is
 /// changed, and what else stands here is blank.
-#[derive(Drop)]
+#[derive(Clone, Copy)]
 pub struct TurnChange {
     pub refusal: u8,
     pub count: u8,
@@ -122,7 +123,7 @@ pub struct TurnChange {
 
 /// What a start answers: the values handed to the run too, 0 each where it is refused.
 #[repr(C)]
-#[derive(Drop)]
+#[derive(Clone, Copy)]
 pub struct Started {
     pub refusal: u8,
     pub handed: [i32; 4],
@@ -131,7 +132,7 @@ pub struct Started {
 
 /// What asking a cell answers: its height, 0 where it is refused.
 #[repr(C)]
-#[derive(Drop)]
+#[derive(Clone, Copy)]
 pub struct CellAnswer {
     pub refusal: u8,
     pub height: i32,
@@ -141,7 +142,7 @@ pub struct CellAnswer {
 /// speculative run and its validity (0 no such run is out or stored, 1 not decided yet, 2 valid, 3 invalid), the values
 /// of the run it holds, and the job as inserted. All are 0 where it is refused.
 #[repr(C)]
-#[derive(Drop)]
+#[derive(Clone, Copy)]
 pub struct JobAnswer {
     pub refusal: u8,
     pub committed: u8,
@@ -156,7 +157,7 @@ pub struct JobAnswer {
 
 /// What asking for the batch's progress answers. All are 0, and `finished` is false, where it is refused.
 #[repr(C)]
-#[derive(Drop)]
+#[derive(Clone, Copy)]
 pub struct BatchAnswer {
     pub refusal: u8,
     pub cell_count: u8,
@@ -168,7 +169,7 @@ pub struct BatchAnswer {
 
 /// What the chooser answers: the step, the job and the length of its chain, or the number of the refusal and zeros.
 #[repr(C)]
-#[derive(Drop)]
+#[derive(Clone, Copy)]
 pub struct Choice {
     pub refusal: u8,
     pub step: u8,

@@ -1,4 +1,5 @@
 //! The program `gaugebatch`: reads a plan from standard input and writes the answers to standard output.
+#![tactic(auto)]
 
 ghost use Rattle.std.specs.Prelude.{◌≤◌, ◌≡◌, length, take};
 ghost use Rattle.io.specs.Counts.{IsPrefixLen};

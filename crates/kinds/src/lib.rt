@@ -1,4 +1,5 @@
 //! The six kinds of check: what a job reports of the heights handed to it, in exact whole numbers.
+#![tactic(auto)]
 
 ghost use Rattle.std.specs.Prelude.{◌≡◌};
 ghost use Rattle.kinds.specs.Kinds.{shifted, is_spike, is_below, mean_of, exceeds, reported, sure_write, uncertain_write, ordered, refused, result_of};
@@ -24,7 +25,7 @@ pub const NO_SUCH_KIND: u8 = 8;
 
 /// What a job of some kind reports: one value for each access, and whether its uncertain writes took place (1) or not (0).
 #[repr(C)]
-#[derive(Drop)]
+#[derive(Clone, Copy)]
 pub struct Outcome {
     pub refusal: u8,
     pub values: [i32; 4],

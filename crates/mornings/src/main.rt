@@ -1,4 +1,5 @@
 //! Two mornings of the harbour, a third by the chooser, one with late jobs and two with a forecast, told call by call.
+#![tactic(auto)]
 
 mod chosen;
 mod forecast;

@@ -1,4 +1,5 @@
 //! A number in a field of a line: base ten, no leading zeros, no minus zero, 32 signed bits.
+#![tactic(auto)]
 
 ghost use Rattle.std.specs.Prelude.{◌≤◌, ◌≡◌};
 ghost use Rattle.number.specs.Numbers.{has_leading_zero, digits_up_to, natural_up_to, negative_of, unsigned_of, count_of, signed_of};
@@ -10,14 +11,14 @@ const LARGEST: u64 = 2147483647;
 const SMALLEST_NEGATED: u64 = 2147483648;
 
 /// A number without a sign that was read, or none.
-#[derive(Drop)]
+#[derive(Clone, Copy)]
 pub enum Natural {
     Is(u64),
     Not,
 }
 
 /// A number of 32 signed bits that was read, or none.
-#[derive(Drop)]
+#[derive(Clone, Copy)]
 pub enum Number {
     Is(i32),
     Not,

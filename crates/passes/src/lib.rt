@@ -1,5 +1,6 @@
 //! Chain lengths of all jobs of a list, in one pass from the last one back.
 //! It keeps a table of one number a cell: the length of the longest chain that starts with a job passed that names the cell.
+#![tactic(auto)]
 
 ghost use Rattle.std.specs.Prelude.{◌≡◌, ◌<◌, max, min, drop};
 ghost use Rattle.laws.specs.Fold.{column};

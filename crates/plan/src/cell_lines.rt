@@ -6,7 +6,7 @@ ghost use Rattle.plan.specs.Lines.{no_cell, cell_from, cell_line_of};
 use number::{Natural, Number};
 
 /// What a cell line says. All are 0 where it is not in form, and `ok` is false.
-#[derive(Drop)]
+#[derive(Clone, Copy)]
 pub struct CellLine {
     pub ok: bool,
     pub cell: usize,

@@ -14,14 +14,14 @@ const ABSENT: u8 = 1;
 const NEITHER: u8 = 2;
 
 /// A field of a job line that may give a cell.
-#[derive(Drop)]
+#[derive(Clone, Copy)]
 pub struct CellField {
     pub form: u8,
     pub cell: u8,
 }
 
 /// The cells of a job line; those not given are 0.
-#[derive(Drop)]
+#[derive(Clone, Copy)]
 pub struct Cells {
     pub ok: bool,
     pub arity: u8,
@@ -31,7 +31,7 @@ pub struct Cells {
 }
 
 /// What a job line says: the job to insert. It is blank where the line is not in form, and `ok` is false.
-#[derive(Drop)]
+#[derive(Clone, Copy)]
 pub struct JobLine {
     pub ok: bool,
     pub job: Job,

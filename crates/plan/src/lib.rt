@@ -1,4 +1,5 @@
 //! The reader of plans: from the bytes of the input to a sealed batch, or to the first fault and its line.
+#![tactic(auto)]
 
 ghost use Rattle.std.specs.Prelude.{◌≡◌};
 ghost use Rattle.plan.specs.Plan.{plan_of};
@@ -13,7 +14,7 @@ mod line_by_line;
 const LINE_FEED: u8 = 10;
 
 /// The plan as far as it is read.
-#[derive(Drop)]
+#[derive(Clone, Copy)]
 pub struct Reading {
     /// What the next line belongs to: 0 the names of the cells, 1 the cells, 2 the jobs, 3 the switch, 4 the names of
     /// the steps, 5 the steps.

@@ -5,7 +5,7 @@ use dependence::{READ, UNCERTAIN_WRITE, WRITE};
 use engine::Batch;
 
 /// A point of a batch.
-#[derive(Drop)]
+#[derive(Clone, Copy)]
 pub enum Point {
     /// Four cells and no job.
     Opened,

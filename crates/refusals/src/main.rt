@@ -1,4 +1,5 @@
 //! Meets each refusal of the engine's entries, and the limits of a batch: a line for each call.
+#![tactic(auto)]
 
 mod batches;
 mod damaged;

@@ -2,6 +2,7 @@
 //!
 //! Each function takes the place where its text begins and answers the place after it, where the next text goes.
 //! What does not fit in the buffer is not written, so no function asks for room.
+#![tactic(auto)]
 
 ghost use Rattle.std.specs.Prelude.{◌≡◌, [], ◌∷◌, nat_abs};
 ghost use Rattle.render.specs.Put.{Put};

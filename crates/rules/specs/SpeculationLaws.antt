@@ -4,7 +4,7 @@ use Rattle.std.specs.Prelude.{ℕ, ◌<◌, Bool, ◌&&◌, ◌≡◌, ℤ}
 use Rattle.std.proofs.Math.Bool.{true, false, not}
 use Rattle.std.proofs.Math.Path.{refl}
 use Rattle.std.proofs.Math.Dec.{eqb}
-use Rattle.std.proofs.lemmas.Bool.{not_false}
+use Rattle.std.proofs.lemmas.Bool.{not-false}
 use Rattle.laws.specs.SearchLaws.{any_fails, any_absent, if-or}
 use Rattle.laws.specs.SameHeightLaws.{same_is, is_same}
 use Rattle.dependence.specs.declared.Job.{Job}
@@ -21,7 +21,7 @@ module _ (job : Job) (handed cells : ℕ → ℤ) where
   pub fresh_present : is_stale job handed cells ≡ false → Present
   fresh_present fresh place below used =
       same_is (handed place) (cells (access_at job place).cell)
-      (not_false _ (rw used at (any_fails 4 place (stale_at job handed cells) fresh below)))
+      (not-false _ (rw used at (any_fails 4 place (stale_at job handed cells) fresh below)))
 
   pub present_fresh : Present → is_stale job handed cells ≡ false
   present_fresh present =

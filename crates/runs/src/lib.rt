@@ -1,4 +1,5 @@
 //! The four values of a run: what is handed out of the cells, what of a report is stored, what is written back.
+#![tactic(auto)]
 
 ghost use Rattle.std.specs.Prelude.{◌≡◌, cond, not, ◌&&◌, ◌<◌, eqb, length};
 ghost use Rattle.laws.specs.SameHeight.{same_height};

@@ -1,6 +1,7 @@
 //! Parts of the lines that programs write to standard output.
 //!
 //! No contract reaches what is written, so a height's text is made in a buffer first, by a function that has one.
+#![tactic(auto)]
 
 ghost use Rattle.std.specs.Prelude.{◌≡◌, take};
 ghost use Rattle.io.specs.Counts.{IsPrefixLen};

@@ -1,6 +1,7 @@
 //! The engine for hosts in other languages: functions exported under C's calling convention over a batch record that
 //! the host owns. A record goes in by value and comes back with the answer; a step also has the lent form, in which
 //! the host lends its record and the step changes it; a list of jobs is inserted, and a turn taken, in that form alone.
+#![tactic(auto)]
 
 mod layout;
 mod opening;
@@ -13,7 +14,7 @@ mod turn;
 
 /// What a step on a lent batch answers: 0 or the number of its refusal, and the values handed to a run, 0 each where none is started.
 #[repr(C)]
-#[derive(Drop)]
+#[derive(Clone, Copy)]
 pub struct Handed {
     pub refusal: u8,
     pub values: [i32; 4],
@@ -21,7 +22,7 @@ pub struct Handed {
 
 /// What inserting a list into a lent batch answers: 0, or the number of the refusal and which job of the list it was.
 #[repr(C)]
-#[derive(Drop)]
+#[derive(Clone, Copy)]
 pub struct Inserted {
     pub refusal: u8,
     pub at: u8,
@@ -29,7 +30,7 @@ pub struct Inserted {
 
 /// What answering a plan tells: 0 or the number of its refusal, and how many bytes the answer has, 0 where it is refused.
 #[repr(C)]
-#[derive(Drop)]
+#[derive(Clone, Copy)]
 pub struct PlanAnswer {
     pub refusal: u8,
     pub length: usize,
@@ -37,7 +38,7 @@ pub struct PlanAnswer {
 
 /// What asking for the kept share tells: whether there is one, and its whole thousandths, 0 where there is none.
 #[repr(C)]
-#[derive(Drop)]
+#[derive(Clone, Copy)]
 pub struct ShareAnswer {
     pub present: bool,
     pub thousandths: u64,
@@ -45,7 +46,7 @@ pub struct ShareAnswer {
 
 /// What a turn on a lent batch answers: 0 or the number of its refusal, and how many steps it took.
 #[repr(C)]
-#[derive(Drop)]
+#[derive(Clone, Copy)]
 pub struct Turned {
     pub refusal: u8,
     pub count: u8,

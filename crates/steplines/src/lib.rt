@@ -1,4 +1,5 @@
 //! A step line of a plan: the number of a step and a job.
+#![tactic(auto)]
 
 ghost use Rattle.std.specs.Prelude.{◌≡◌};
 ghost use Rattle.steplines.specs.StepLines.{no_step, step_from, step_line_of};
@@ -9,7 +10,7 @@ use number::Natural;
 const LAST_STEP: u64 = 4;
 
 /// What a step line says. All are 0 where it is not in form, and `ok` is false.
-#[derive(Drop)]
+#[derive(Clone, Copy)]
 pub struct StepLine {
     pub ok: bool,
     pub step: u8,

@@ -1,4 +1,5 @@
 //! The second pass over a plan: each step line is performed on the batch, and its answer written.
+#![tactic(auto)]
 
 ghost use Rattle.std.specs.Prelude.{◌≤◌, ◌≡◌, length, drop};
 ghost use Rattle.text.specs.Pieces.{line_feed, pieces};
@@ -13,7 +14,7 @@ use steplines::StepLine;
 const LINE_FEED: u8 = b'\n';
 
 /// What the step lines left: the place after their answers, and the batch.
-#[derive(Drop)]
+#[derive(Clone, Copy)]
 pub struct Ran {
     pub at: usize,
     pub batch: Batch,

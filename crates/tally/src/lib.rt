@@ -1,4 +1,5 @@
 //! Guesses over a month: what became of a batch's speculative runs, and of those of many batches together.
+#![tactic(auto)]
 
 ghost use Rattle.std.specs.Prelude.{◌≡◌};
 ghost use Rattle.tally.specs.Tally.{no_tally, refused};
@@ -10,7 +11,7 @@ mod total;
 /// R75: how many jobs there are, and how many of their speculative runs were started, are kept (the job is committed by
 /// it), are discarded, and are pending: still out or with a stored report, their job not committed.
 #[repr(C)]
-#[derive(Drop)]
+#[derive(Clone, Copy)]
 pub struct Tally {
     pub jobs: u32,
     pub started: u32,
@@ -21,14 +22,14 @@ pub struct Tally {
 
 /// What counting and adding up answer: 0 or the number of the refusal, and a tally, all 0 where it is refused.
 #[repr(C)]
-#[derive(Drop)]
+#[derive(Clone, Copy)]
 pub struct TallyAnswer {
     pub refusal: u8,
     pub tally: Tally,
 }
 
 /// R77: the share of the speculative runs started that were kept; absent where none was started.
-#[derive(Drop)]
+#[derive(Clone, Copy)]
 pub enum Share {
     Thousandths(u64),
     Absent,

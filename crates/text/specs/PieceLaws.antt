@@ -1,8 +1,9 @@
 -- How the pieces of a list of bytes are met by a loop that goes from place to place.
 use Rattle.std.specs.Prelude.{ℕ, zero, suc, ◌+◌, ◌-◌, ◌<◌, ◌≤◌, Bool, true, false, cond, List, [], ◌∷◌, ◌≡◌, refl, eqb, length, take, drop, get_or}
-use Rattle.std.proofs.Common.{eq-or-lt_of_le, sub-one, arith, ⊎_elim, length-drop, drop-drop, take_all}
-use Rattle.bytes.specs.Bytes.{index_of, index_after}
-use Rattle.text.specs.Pieces.{pieces, piece_end, onto_first}
+use Rattle.std.proofs.Common.{eq-or-lt_of_le, add-one, sub-one, arith, ⊎_elim, eq-eqb, length-drop, drop-cons, drop-drop, take_all}
+use Rattle.std.proofs.lemmas.Bool.{ne_eqb}
+use Rattle.std.proofs.lemmas.List.{drop_all}
+use Rattle.text.specs.Pieces.{pieces, piece_end, onto_first, index_of, index_after}
 
 -- There is a first piece.
 pub some_piece : (separator : ℕ) (bytes : List ℕ) → 0 < length (pieces separator bytes)
@@ -35,6 +36,21 @@ index_within separator (byte ∷ rest) = go (eqb byte separator) (index_within s
     go : (t : Bool) → index_of separator rest ≤ length rest → index_after t (index_of separator rest) ≤ suc (length rest)
     go true h = omega arith
     go false h = omega arith
+
+-- A search from place i on: it ends where the separator stands, goes on past another byte, and ends with the bytes.
+pub index_met : (separator : ℕ) (bytes : List ℕ) (i : ℕ) → i < length bytes → get_or bytes i 0 ≡ separator
+    → index_of separator (drop i bytes) ≡ 0
+unfolding index_of index_after
+index_met separator bytes i h e = rw (drop-cons bytes i 0, eq-eqb (get_or bytes i 0) separator e)
+
+pub index_passed : (separator : ℕ) (bytes : List ℕ) (i : ℕ) → i < length bytes → (get_or bytes i 0 ≡ separator → ⊥)
+    → index_of separator (drop i bytes) ≡ suc (index_of separator (drop (i + 1) bytes))
+unfolding index_of index_after
+index_passed separator bytes i h e = rw (add-one, drop-cons bytes i 0, ne_eqb (get_or bytes i 0) separator e)
+
+pub index_end : (separator : ℕ) (bytes : List ℕ) (i : ℕ) → length bytes ≤ i → index_of separator (drop i bytes) ≡ 0
+unfolding index_of
+index_end separator bytes i h = rw (drop_all i bytes h)
 
 -- From a place among the bytes the separator that is found, or the end, is the end of the piece.
 pub end_found : (separator : ℕ) (bytes : List ℕ) (at : ℕ) → at ≤ length bytes

@@ -1,7 +1,8 @@
 //! Bytes cut into pieces: a text into its lines, a line into its fields; and whether two texts are the same.
+#![tactic(auto)]
 
-ghost use Rattle.std.specs.Prelude.{◌≤◌, [], ◌≡◌, length, get_or};
-ghost use Rattle.text.specs.Pieces.{pieces, piece_end, space};
+ghost use Rattle.std.specs.Prelude.{◌+◌, ◌≤◌, [], ◌≡◌, drop, length, get_or};
+ghost use Rattle.text.specs.Pieces.{index_of, pieces, piece_end, space};
 ghost use Rattle.text.specs.SameText.{same_text};
 
 /// The byte between two fields.
@@ -16,7 +17,23 @@ pub fn cut(bytes: &[u8], at: usize, separator: u8) -> usize
     if bytes.len() < at {
         return bytes.len();
     }
-    bytes::scan::find(bytes, at, bytes.len(), separator)
+    find(bytes, at, separator)
+}
+
+/// The first separator from `start` on, or the end of the bytes.
+fn find(bytes: &[u8], start: usize, separator: u8) -> usize
+    requires { start ≤ length bytes.now }
+    ensures value { result ≡ start + index_of separator (drop start bytes.now) }
+    ensures upper_bound { result ≤ length bytes.now }
+{
+    let mut i = start;
+    while i < bytes.len() {
+        if bytes[i] == separator {
+            return i;
+        }
+        i += 1;
+    }
+    i
 }
 
 /// Field `k` of the line, counted from 0; empty where the line has fewer.

@@ -93,7 +93,8 @@ pub sound_after : {b : Batch} {l : Ledger} → Sound b l → (calls : List Call)
     → Sound (batch_after b calls) (ledger_after l (events_of b calls))
 unfolding batch_after events_of ledger_after
 sound_after sound [] = sound
-sound_after sound (call ∷ calls) = sound_after (call_sound sound call) calls
+sound_after {b = b} {l = l} sound (call ∷ calls) =
+    sound_after {b = (perform b call).batch} {l = recorded l (event_of b call)} (call_sound sound call) calls
 
 -- The opening.
 

@@ -22,7 +22,7 @@ use Rattle.bypass.specs.BypassLaws.{told_same, asked_held}
 use Rattle.claims.specs.Ledger.{Report, Counted, GuessEntry, never, entered, reported, struck, Entry, Ledger}
 use Rattle.claims.specs.Ledger.{is_counted, guess_phase, guess_bypassed}
 use Rattle.claims.specs.Enter.{snapshot_of_ledger, struck_out, with_report, step_entered, enter}
-use Rattle.claims.specs.Trace.{events_of, ledger_after}
+use Rattle.claims.specs.Trace.{event_of, events_of, recorded, ledger_after}
 use Rattle.claims.specs.Bypassed.{is_bypassed, is_open, GuessToldStatement}
 use Rattle.model.specs.Cases.{below_or}
 use Rattle.theorem.specs.Update.{at-or, update_same, update_other}
@@ -134,7 +134,7 @@ past_after : {b : Batch} {l : Ledger} → Sound b l → PastConflicts l → (cal
 unfolding events_of ledger_after
 past_after sound past [] = past
 past_after {b} {l} sound past (call ∷ calls) =
-    past_after (call_sound sound call) (cases (eqb (perform b call).refusal 0)) calls
+    past_after {b = (perform b call).batch} {l = recorded l (event_of b call)} (call_sound sound call) (cases (eqb (perform b call).refusal 0)) calls
   where
     cases : (t : Bool) → PastConflicts (cond t (enter l call (perform b call).handed) l)
     cases true = enter_conflicts sound.agree past call (perform b call).handed

@@ -69,8 +69,9 @@ events_add : {jobs : List Job} {l : Ledger} → JobsAre jobs l → (events : Lis
     → JobsAre (jobs ++ jobs_of events) (ledger_after l events)
 unfolding ledger_after jobs_of
 events_add are [] = stays are refl refl
-events_add {jobs} are (e ∷ events) =
-    rw (← append_assoc jobs (cond e.accepted (job_of e.call) []) (jobs_of events)) (events_add (recorded_adds are e) events)
+events_add {jobs} {l} are (e ∷ events) =
+    rw (← append_assoc jobs (cond e.accepted (job_of e.call) []) (jobs_of events))
+    (events_add {jobs = jobs ++ cond e.accepted (job_of e.call) []} {l = recorded l e} (recorded_adds are e) events)
 
 pub jobs_inserted : InsertsStatement
 jobs_inserted heights calls =

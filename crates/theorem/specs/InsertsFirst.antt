@@ -37,7 +37,7 @@ unfolding batch_after
 waits sound earlier [] rest = refl
 waits {b} {l} sound {call} earlier (job ∷ jobs) rest =
     ap (λ (c : Batch). batch_after c (map insert jobs ++ rest)) (sym (exchange sound job earlier).record_same)
-    ∙ waits (call_sound sound (insert job)) (still_earlier (inserts_grow b l job) earlier) jobs rest
+    ∙ waits {b = (perform b (insert job)).batch} {l = recorded l (event_of b (insert job))} (call_sound sound (insert job)) {call = call} (still_earlier (inserts_grow b l job) earlier) jobs rest
 
 -- An accepted call before jobs that are inserted and other calls: an insert stays the first, another waits for the jobs.
 accepted_first : {b : Batch} {l : Ledger} → Sound b l → (call : Call) → (perform b call).refusal ≡ 0
@@ -69,7 +69,7 @@ unfolding batch_after events_of jobs_of others_of
 first_after sound [] = refl
 first_after {b} {l} sound (call ∷ calls) =
     let later = events_of (perform b call).batch calls in
-    first_after (call_sound sound call) calls
+    first_after {b = (perform b call).batch} {l = recorded l (event_of b call)} (call_sound sound call) calls
     ∙ if-or (accepts b call)
     (λ t. rw t (accepted_first sound call (eqb-true (perform b call).refusal 0 t) (jobs_of later) (others_of later)))
     (λ f. rw f (ap (λ (c : Batch). batch_after c (inserts_first later)) (refused_stays b call f)))

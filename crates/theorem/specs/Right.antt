@@ -7,7 +7,7 @@ use Rattle.std.proofs.Math.Bool.{true, false, not}
 use Rattle.std.proofs.Math.Option.{some}
 use Rattle.std.proofs.Math.Path.{refl, ap, subst}
 use Rattle.std.proofs.Math.IntN.{ℤ}
-use borrow.Author.Tests.{leb-false, not_false}
+use borrow.Author.Tests.{leb-false, not-false}
 use Rattle.laws.specs.SearchLaws.{clash, or_left, or_right}
 use Rattle.laws.specs.RefusalLaws.{Passed, Numbered, passed}
 use Rattle.dependence.specs.declared.Job.{Job}
@@ -122,7 +122,7 @@ module _ {b : Batch} {l : Ledger} (sound : Sound b l) where
       (own_start_keeps (state_of l b.cells) j (λ x. value_for (l.job j) (own_values b j) x) sound.carried
       (below j tests.1.0)
       (not_begun (l.job j) (l.entry j).own (l.entry j).counted tests.1.1.0)
-      (ready_says l b.cells j (not_false _ tests.1.1.1.0))
+      (ready_says l b.cells j (not-false _ tests.1.1.1.0))
       (own_value j tests.1.0))
 
   -- 1: start guess.
@@ -210,10 +210,10 @@ module _ {b : Batch} {l : Ledger} (sound : Sound b l) where
   commit_right j handed tests =
       let test = tests.1.1.0 in
       let unsettled = or_left (is_some (l.entry j).counted) _ test in
-      let g = reported_guess (l.entry j).guess (not_false _ (or_right (is_some (l.entry j).counted) _ test)) in
+      let g = reported_guess (l.entry j).guess (not-false _ (or_right (is_some (l.entry j).counted) _ test)) in
       let held = guess_stored sound.agree j g.of g.report g.entered_as in
       let is-stored = guess_stored_is (l.job j) (l.entry j).guess g.of g.report g.entered_as in
-      let ready = not_false (is_ready (snapshot_of_ledger l) j) tests.1.1.1.0 in
+      let ready = not-false (is_ready (snapshot_of_ledger l) j) tests.1.1.1.0 in
       subst (λ (s : State). Carried s)
       (sym
       (commit_state_lem l b.cells j (l.entry j).own (l.entry j).guess (guess_counted (l.entry j).guess)

@@ -5,7 +5,7 @@ use Rattle.std.specs.Prelude.{Bool, true, false, cond, not, ◌&&◌, List, ◌�
 use Rattle.std.proofs.Math.Option.{Option, none, some}
 use Rattle.std.proofs.Math.Path.{refl, ap}
 use Rattle.std.proofs.Common.{sym, ◌∙◌, eq-eqb, ne_eqb, eqb-true, le-leb, lt-ltb}
-use Rattle.std.proofs.lemmas.Bool.{not_false}
+use Rattle.std.proofs.lemmas.Bool.{not-false}
 use Rattle.laws.specs.SearchLaws.{any_find, any_found, any_fails, each_of_four, if-or, clash, and_left, and_right}
 use Rattle.dependence.specs.declared.Job.{Job}
 use Rattle.dependence.specs.Job.{is_predicted, counts_as, in_use, access_at, predicts_at, predicts, job_at}
@@ -218,7 +218,7 @@ module _ {b : Batch} {l : Ledger} (agree : Faithful b l) (j : ℕ) (h : j < l.jo
         → is_stored (guess_phase (l.entry w).guess) ≡ true
     usable_at n q t =
         let m : suc w - 1 ≡ w = omega arith in
-        not_false (is_stored (guess_phase (l.entry w).guess)) (rw (q, ne_eqb (suc w) 0 (λ z. omega arith), m) at t)
+        not-false (is_stored (guess_phase (l.entry w).guess)) (rw (q, ne_eqb (suc w) 0 (λ z. omega arith), m) at t)
 
     has_report : ReportedGuess (l.entry w).guess
     has_report =

@@ -13,14 +13,14 @@ use jobset::JobSet;
 
 /// Where the values of a speculative run come from: for each place the job whose report gives the value, as one more than its
 /// number, 0 for the cell itself; and the jobs bypassed.
-#[derive(Drop)]
+#[derive(Clone, Copy)]
 pub struct Origins {
     pub sources: [u8; 4],
     pub bypassed: JobSet,
 }
 
 /// The walk so far: the cells for which no sure writer was met yet, and what was found.
-#[derive(Drop)]
+#[derive(Clone, Copy)]
 struct Walk {
     wanted: u64,
     sources: [u8; 4],

@@ -1,7 +1,7 @@
 -- `Batch::insert_all` meets its contract: the record, the jobs, and then the places filled.
 use native.Mathlib.Omega.{arith}
 use borrow.Author.Rules.{rules}
-use borrow.Author.Tests.{not_false}
+use borrow.Author.Tests.{not-false}
 use Prim.Native.Nat.{◌≤◌, ◌+◌, ◌-◌}
 use lib.ListN.{length-map}
 use mathlib.Core.Path.{◌≡◌, sym, ◌∙◌}
@@ -37,7 +37,7 @@ cast-first-refused c = omega arith
 
 first-refused-requires : tie.Need-first-refused-requires invariant-loop decreases-loop
 first-refused-requires c κs =
-    let form = sym c.before.is-in-form.ensures ∙ not_false _ c.if1.false in
+    let form = sym c.before.is-in-form.ensures ∙ not-false _ c.if1.false in
     (form_counts c.before.before.args.t1 form).few_jobs
 
 -- a job
@@ -45,7 +45,7 @@ returns-2 : tie.Need-returns-2 invariant-loop decreases-loop
 returns-2 c =
     let t1 = c.before.before.before in
     let a = t1.before.before.args in
-    let form = sym t1.before.is-in-form.ensures ∙ not_false _ t1.if1.false in
+    let form = sym t1.before.is-in-form.ensures ∙ not-false _ t1.if1.false in
     let g = t1.before.before.well-formed.0.1.1.1.1.1.1.1 in
     let sized : Sized a.t1 = record {
       jobs_length = sym (length-map a.t1.jobs _) ∙ g.0.1.0.1;
@@ -64,7 +64,7 @@ loop-holds : tie.Need-loop-init invariant-loop decreases-loop
 loop-holds c =
     let t1 = c.before.before.before.before in
     let a = t1.before.before.args in
-    let form = sym t1.before.is-in-form.ensures ∙ not_false _ t1.if1.false in
+    let form = sym t1.before.is-in-form.ensures ∙ not-false _ t1.if1.false in
     let g = t1.before.before.well-formed.0.1.1.1.1.1.1.1 in
     let sized : Sized a.t1 = record {
       jobs_length = sym (length-map a.t1.jobs _) ∙ g.0.1.0.1;

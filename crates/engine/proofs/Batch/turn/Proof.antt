@@ -1,6 +1,6 @@
 -- `Batch::turn` meets its contract: the record's check as `is_in_form` makes it, what a turn may begin with, its report, and its steps.
 use native.Mathlib.Omega.{arith}
-use borrow.Author.Tests.{eqb-true, ne_eqb, not_false}
+use borrow.Author.Tests.{eqb-true, ne_eqb, not-false}
 use borrow.Author.Rules.{rules}
 use Prim.Native.Nat.{ℕ, ◌<◌, ◌≤◌, ◌-◌}
 use mathlib.Core.Logic.{⊎_elim}
@@ -249,7 +249,7 @@ returns-8 r =
     let a = d.before.before.before.before.before.before.before.before.before.before.before.before.before.before.before.before.before.before.args in
     let form = all_seen a.t1 i.2 i.3 i.4 i.0 d.loop2-test.false i.5 in
     r.refused-turn8.ensures
-    ∙ turn_unsealed a.t1 a.number a.j a.report a.limit (sym c.before.before.begins-turn.ensures ∙ not_false _ c.before.if7.false) form c.if8.true
+    ∙ turn_unsealed a.t1 a.number a.j a.report a.limit (sym c.before.before.begins-turn.ensures ∙ not-false _ c.before.if7.false) form c.if8.true
 
 no-job-run-requires : tie.Need-no-job-run-requires invariant-loop decreases-loop invariant-loop2 decreases-loop2
 no-job-run-requires c κs = search rules
@@ -265,7 +265,7 @@ returns-9 r =
     let i = d.before.loop2.invariant in
     let a = d.before.before.before.before.before.before.before.before.before.before.before.before.before.before.before.before.before.before.args in
     let form = all_seen a.t1 i.2 i.3 i.4 i.0 d.loop2-test.false i.5 in
-    let begun = sym c.before.before.before.before.before.begins-turn.ensures ∙ not_false _ c.before.before.before.before.if7.false in
+    let begun = sym c.before.before.before.before.before.begins-turn.ensures ∙ not-false _ c.before.before.before.before.if7.false in
     let told = begun_report a.t1 a.number a.j a.report a.limit begun c.before.if9.true in
     r.refused-turn9.ensures
     ∙ turn_absent a.t1 a.number a.j a.report a.limit told form (ne_eqb _ _ c.before.before.before.if8.false) (rw (← i.2) c.if10.true)
@@ -307,7 +307,7 @@ returns-10 r =
     let i = d.before.loop2.invariant in
     let a = d.before.before.before.before.before.before.before.before.before.before.before.before.before.before.before.before.before.before.args in
     let form = all_seen a.t1 i.2 i.3 i.4 i.0 d.loop2-test.false i.5 in
-    let begun = sym e.before.before.before.before.before.begins-turn.ensures ∙ not_false _ e.before.before.before.before.if7.false in
+    let begun = sym e.before.before.before.before.before.begins-turn.ensures ∙ not-false _ e.before.before.before.before.if7.false in
     let told = begun_report a.t1 a.number a.j a.report a.limit begun e.before.if9.true in
     let made = report_made a.t1 a.number a.j a.report told form (ne_eqb _ _ e.before.before.before.if8.false) (rw (← i.2) e.if10.false) p.plain-change.ensures in
     r.refused-turn10.ensures ∙ report_refused a.t1 a.number a.j a.report a.limit told made c.if11.true
@@ -358,7 +358,7 @@ take-steps-requires c κs =
     let a = d.before.before.before.before.before.before.before.before.before.before.before.before.before.before.before.before.before.before.args in
     let form = all_seen a.t1 i.2 i.3 i.4 i.0 d.loop2-test.false i.5 in
     let closed = ne_eqb _ _ m.before.before.if8.false in
-    let begun = sym m.before.before.before.before.begins-turn.ensures ∙ not_false _ m.before.before.before.if7.false in
+    let begun = sym m.before.before.before.before.begins-turn.ensures ∙ not-false _ m.before.before.before.if7.false in
     ⊎_elim
     (λ w.
     let told = begun_report a.t1 a.number a.j a.report a.limit begun w.0.taken in
@@ -379,7 +379,7 @@ returns-11 c =
     let a = d.before.before.before.before.before.before.before.before.before.before.before.before.before.before.before.before.before.before.args in
     let form = all_seen a.t1 i.2 i.3 i.4 i.0 d.loop2-test.false i.5 in
     let closed = ne_eqb _ _ m.before.before.if8.false in
-    let begun = sym m.before.before.before.before.begins-turn.ensures ∙ not_false _ m.before.before.before.if7.false in
+    let begun = sym m.before.before.before.before.begins-turn.ensures ∙ not-false _ m.before.before.before.if7.false in
     let most = c.before.at_most.ensures in
     let none = m.before.no-job-run.ensures in
     c.take_steps.ensures
