@@ -17,7 +17,7 @@ returns-then-left-eq0 c =
     let l = c.loop-left in
     let line = c.args.line.now in
     rw (l.invariant.1, c.if-left-eq0.true)
-    (sym (head_piece space line l.at c.cut-stop.result c.cut-stop.ensures.0 l.invariant.0 c.cut-stop.ensures.1))
+    (sym (head_piece space line l.at c.cut-stop.result c.cut-stop.ensures.value l.invariant.0 c.cut-stop.ensures.upper_bound))
 
 -- the line ends with fields left to pass: an empty one
 pub returns-then-stop-line : goal.returns-then-stop-line
@@ -26,7 +26,7 @@ returns-then-stop-line c =
     let line = c.args.line.now in
     rw (
       l.invariant.1,
-      last_piece space line l.at c.cut-stop.result c.cut-stop.ensures.0 l.invariant.0 c.if-stop-line.true,
+      last_piece space line l.at c.cut-stop.result c.cut-stop.ensures.value l.invariant.0 c.if-stop-line.true,
       later_piece _ _ _ _ c.if-left-eq0.false,
       sub_self,
     )
@@ -39,7 +39,7 @@ loop-left-preserved c =
       omega arith,
       l.invariant.1
           ∙ rw (
-            next_piece space line l.at c.cut-stop.result c.cut-stop.ensures.0 l.invariant.0 (omega arith),
+            next_piece space line l.at c.cut-stop.result c.cut-stop.ensures.value l.invariant.0 (omega arith),
             later_piece _ _ _ _ c.if-left-eq0.false,
           ),
     )

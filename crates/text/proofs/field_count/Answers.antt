@@ -14,12 +14,12 @@ pub returns-then-next-line : goal.returns-then-next-line
 returns-then-next-line c =
     let l = c.loop-at in
     let line = c.args.line.now in
-    omega (arith, rw (last_piece space line l.at c.cut-next.result c.cut-next.ensures.0 l.invariant.0 c.if-next-line.true) at l.invariant.2)
+    omega (arith, rw (last_piece space line l.at c.cut-next.result c.cut-next.ensures.value l.invariant.0 c.if-next-line.true) at l.invariant.2)
 
 -- one field more
 pub loop-at-preserved : goal.loop-at-preserved
 loop-at-preserved c =
     let l = c.loop-at in
     let line = c.args.line.now in
-    let p = next_piece space line l.at c.cut-next.result c.cut-next.ensures.0 l.invariant.0 (omega arith) in
+    let p = next_piece space line l.at c.cut-next.result c.cut-next.ensures.value l.invariant.0 (omega arith) in
     (omega arith, omega arith, omega (arith, rw p at l.invariant.2))

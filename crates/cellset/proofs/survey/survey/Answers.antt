@@ -22,8 +22,8 @@ loop-j-preserved c =
     let turn : (c.if-committed-j-eq0.told ≡ rank_at of a.on l.j) × (c.if-committed-j-eq0.earlier ≡ earlier_than of (l.j + 1)) =
     elim c.if-committed-j-eq0.branch [
       then-committed-j-eq0 w ↦ (
-      w.withholds-missing ∙ w.way_told-then-committed-j-eq0-5-1.ensures ∙ rw (w.cells-then-committed-j-eq0-2-1.ensures, w.way_told-then-committed-j-eq0-4-1.ensures, l.invariant.2, eq-eqb _ _ w.if-committed-j-eq0.true),
-      w.admits-ready ∙ w.phase-1.ensures ∙ rw (l.invariant.2, earlier_more of l.j, eq-eqb _ _ w.if-committed-j-eq0.true),
+      w.told-is ∙ w.rank-told.ensures ∙ rw (w.admits-ready.ensures, w.withholds-missing.ensures, l.invariant.2, eq-eqb _ _ w.if-committed-j-eq0.true),
+      w.earlier-is ∙ w.with-next.ensures ∙ rw (l.invariant.2, earlier_more of l.j, eq-eqb _ _ w.if-committed-j-eq0.true),
     )
       | else-committed-j-eq0 w ↦ (
       w.told-is ∙ rw (ne_eqb _ _ w.if-committed-j-eq0.false),
