@@ -2,7 +2,7 @@
 use Rattle.std.specs.Prelude.{ℕ, ◌<◌, Bool, ◌&&◌, ◌||◌, ◌≡◌}
 use Rattle.std.proofs.Math.Bool.{true, false, not, and_assoc}
 use Rattle.std.proofs.Math.Path.{refl, sym}
-use Rattle.std.proofs.Common.{ap, ◌∙◌, eqb-true, eq-eqb}
+use Rattle.std.proofs.Common.{◌∙◌, eqb-true, eq-eqb}
 use Rattle.std.proofs.Math.Dec.{eqb}
 use Rattle.laws.specs.SearchLaws.{any_same, any_or, any_find, any_found, if-or, clash, and_left, and_right, and_false}
 use Rattle.dependence.specs.declared.Access.{Access}

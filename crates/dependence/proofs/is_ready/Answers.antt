@@ -1,12 +1,11 @@
 -- `is_ready` meets its contract: a search over the earlier jobs.
 use native.Mathlib.Omega.{arith}
-use Prim.Native.Nat.{◌≤◌, ◌-◌}
-use mathlib.Core.Bool.{false, not}
+use mathlib.Core.Bool.{not}
 use mathlib.Core.Path.{◌≡◌, ap, sym}
 use lib.ListN.{length}
 use borrow.Author.Rules.{rules}
 use Rattle.laws.specs.SearchLaws.{any_none, found, passed, missed}
-use Rattle.dependence.specs.Ready.{blocks, ready}
+use Rattle.dependence.specs.Ready.{ready}
 use Rattle.dependence.specs.ReadyLaws.{ready_past}
 use Rattle.dependence.proofs.is_ready.Goals as goal
 

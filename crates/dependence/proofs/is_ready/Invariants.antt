@@ -1,10 +1,9 @@
 -- `is_ready` meets its contract: a search over the earlier jobs.
 use Prim.Native.Nat.{◌≤◌, ◌-◌}
-use mathlib.Core.Bool.{false, not}
-use mathlib.Core.Path.{◌≡◌, ap, sym}
+use mathlib.Core.Bool.{false}
+use mathlib.Core.Path.{◌≡◌}
 use Rattle.laws.specs.Search.{any_below}
-use Rattle.laws.specs.SearchLaws.{any_none, found, passed, missed}
-use Rattle.dependence.specs.Ready.{blocks, ready}
+use Rattle.dependence.specs.Ready.{blocks}
 use Rattle.dependence.proofs.is_ready.Given as goal
 
 -- no job passed blocks job j

@@ -1,11 +1,11 @@
 -- `chain_lengths_from` meets its contract: the pass of specs/ChainPass.antt, a job a turn from the last one back.
 use native.Mathlib.Omega.{arith}
-use Prim.Native.Nat.{◌≤◌, ◌+◌, ◌-◌, suc, min}
+use Prim.Native.Nat.{◌+◌, ◌-◌, suc}
 use native.Mathlib.Numerals.{add-one}
 use mathlib.Core.Path.{◌≡◌, ap, ◌∙◌}
 use lib.ListN.{length}
 use borrow.Author.Rules.{rules}
-use Rattle.passes.specs.ChainPass.{ChainPass, chain_start, chain_short, chain_step, chain_end}
+use Rattle.passes.specs.ChainPass.{chain_start, chain_short, chain_step, chain_end}
 use Rattle.passes.proofs.chain_lengths_from.Goals as goal
 
 pub loop-k-init : goal.loop-k-init

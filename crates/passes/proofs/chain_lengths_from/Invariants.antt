@@ -1,7 +1,6 @@
 -- `chain_lengths_from` meets its contract: the pass of specs/ChainPass.antt, a job a turn from the last one back.
-use Prim.Native.Nat.{◌≤◌, ◌+◌, ◌-◌, suc, min}
-use lib.ListN.{length}
-use Rattle.passes.specs.ChainPass.{ChainPass, chain_start, chain_short, chain_step, chain_end}
+use Prim.Native.Nat.{◌≤◌, min}
+use Rattle.passes.specs.ChainPass.{ChainPass}
 use Rattle.passes.proofs.chain_lengths_from.Given as goal
 
 -- the jobs from k on are done

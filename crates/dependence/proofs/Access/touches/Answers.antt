@@ -1,9 +1,7 @@
 -- `Access::touches` meets its contract: a search over the four places.
 use native.Mathlib.Omega.{arith}
-use Prim.Native.Nat.{◌≤◌, ◌-◌}
-use mathlib.Core.Bool.{false}
 use Rattle.laws.specs.SearchLaws.{any_none, found, passed, missed}
-use Rattle.dependence.specs.Conflict.{touches_at, touches}
+use Rattle.dependence.specs.Conflict.{touches}
 use Rattle.dependence.proofs.Access.touches.Goals as goal
 
 pub loop-i-init : goal.loop-i-init

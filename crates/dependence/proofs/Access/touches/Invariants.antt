@@ -3,8 +3,7 @@ use Prim.Native.Nat.{◌≤◌, ◌-◌}
 use mathlib.Core.Bool.{false}
 use mathlib.Core.Path.{◌≡◌}
 use Rattle.laws.specs.Search.{any_below}
-use Rattle.laws.specs.SearchLaws.{any_none, found, passed, missed}
-use Rattle.dependence.specs.Conflict.{touches_at, touches}
+use Rattle.dependence.specs.Conflict.{touches_at}
 use Rattle.dependence.proofs.Access.touches.Given as goal
 
 -- none of the places passed

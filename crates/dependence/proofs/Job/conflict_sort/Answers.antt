@@ -1,9 +1,8 @@
 -- `Job::conflict_sort` meets its contract: the pass of specs/SortPass.antt, a place a turn.
 use native.Mathlib.Omega.{arith}
 use borrow.Author.Tests.{eq-eqb, ne_eqb}
-use Prim.Native.Nat.{◌≤◌, ◌-◌}
 use mathlib.Core.Path.{◌≡◌, sym, ◌∙◌}
-use Rattle.dependence.specs.SortPass.{SortPass, sort_start, sort_flow, sort_overwrite, sort_pass, sort_end}
+use Rattle.dependence.specs.SortPass.{sort_start, sort_flow, sort_overwrite, sort_pass, sort_end}
 use Rattle.dependence.proofs.Job.conflict_sort.Goals as goal
 use Rattle.dependence.proofs.Job.conflict_sort.Goals.{else-conflict_at, then-conflict_at+else-access-ne-READ}
 
@@ -23,9 +22,9 @@ loop-i-preserved c =
     let met = sym c.conflict_at.ensures in (
       omega arith,
       (elim c.if-conflict_at.branch [
-      then-conflict_at+else-access-ne-READ w ↦ rw w.sort-is (sort_overwrite a.self a.later l.i l.sort l.invariant.1 (met ∙ w.if-conflict_at.true) (eq-eqb _ _ w.if-access-ne-READ.false))
-      | else-conflict_at w ↦ rw w.sort-is (sort_pass a.self a.later l.i l.sort l.invariant.1 (met ∙ w.if-conflict_at.false))
-    ]),
+        | then-conflict_at+else-access-ne-READ w ↦ rw w.sort-is (sort_overwrite a.self a.later l.i l.sort l.invariant.1 (met ∙ w.if-conflict_at.true) (eq-eqb _ _ w.if-access-ne-READ.false))
+        | else-conflict_at w ↦ rw w.sort-is (sort_pass a.self a.later l.i l.sort l.invariant.1 (met ∙ w.if-conflict_at.false))
+      ]),
     )
 
 -- all places are passed

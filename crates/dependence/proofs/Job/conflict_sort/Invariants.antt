@@ -1,6 +1,6 @@
 -- `Job::conflict_sort` meets its contract: the pass of specs/SortPass.antt, a place a turn.
 use Prim.Native.Nat.{◌≤◌, ◌-◌}
-use Rattle.dependence.specs.SortPass.{SortPass, sort_start, sort_flow, sort_overwrite, sort_pass, sort_end}
+use Rattle.dependence.specs.SortPass.{SortPass}
 use Rattle.dependence.proofs.Job.conflict_sort.Given as goal
 
 -- no height flows by the places passed, and `sort` says whether one is overwritten
