@@ -1,5 +1,5 @@
 -- What the pass tells of a job is what the rules allow on it: of a snapshot whose jobs and states the columns hold.
-use Prim.Native.Nat.{ℕ, zero, suc, ◌-◌, ◌<◌, ◌≤◌}
+use Prim.Native.Nat.{ℕ, zero, suc, ◌<◌, ◌≤◌}
 use Rattle.std.proofs.Common.{arith, sub-one, sym, ◌∙◌}
 use Rattle.std.specs.Prelude.{Bool, ◌&&◌, ◌||◌, ◌≡◌, eqb, get_or}
 use Rattle.std.proofs.Math.Bool.{true, false, cond, not}

@@ -1,5 +1,5 @@
 -- Laws of numbers as text.
-use Rattle.std.specs.Prelude.{ℕ, zero, suc, ◌+◌, ◌<◌, ◌≤◌, ◌/◌, ◌%◌, true, false, List, [], ◌∷◌, ◌++◌, ◌≡◌, refl, ℤ, pos, negsuc, nat_abs}
+use Rattle.std.specs.Prelude.{ℕ, zero, suc, ◌<◌, ◌≤◌, ◌/◌, ◌%◌, true, false, List, [], ◌∷◌, ◌++◌, ◌≡◌, refl, ℤ, pos, negsuc, nat_abs}
 use Rattle.std.proofs.Common.{arith, ap, ltb-true}
 use Rattle.std.specs.Int.Signed.{lt_z}
 use Rattle.render.specs.Text.{minus_sign, digit, digits_within, decimal, height_text}

@@ -9,7 +9,7 @@ use Rattle.laws.specs.SearchLaws.{any_same, any_found, any_fails, any_absent, if
 use Rattle.dependence.specs.declared.Job.{Job}
 use Rattle.dependence.specs.Job.{is_predicted, counts_as, in_use, access_at, job_at}
 use Rattle.dependence.specs.Ready.{is_committed}
-use Rattle.dependence.specs.Sort.{may_write, may_write_at, may_write_cell}
+use Rattle.dependence.specs.Sort.{may_write_at, may_write_cell}
 use Rattle.jobset.specs.declared.JobSet.{JobSet}
 use Rattle.jobset.specs.JobSet.{bit, empty_set, with_job, has_job}
 use Rattle.jobset.specs.JobSetLaws.{has_empty, has_with, with_words, same_jobs}

@@ -1,8 +1,7 @@
 -- `has_modes` meets its contract: the loop searches a place whose mode is not the listed one.
-use Prim.Native.Nat.{◌≤◌, ◌-◌}
 use native.Mathlib.Omega.{arith}
-use mathlib.Core.Path.{◌≡◌, ap}
-use mathlib.Core.Bool.{not, false}
+use mathlib.Core.Path.{ap}
+use mathlib.Core.Bool.{not}
 use borrow.Author.Tests.{eq-eqb, ne_eqb}
 use Rattle.laws.specs.SearchLaws.{any_none, any_found, any_more, missed}
 use Rattle.admission.specs.Admission.{other_mode}

@@ -1,7 +1,7 @@
 -- `has_modes` meets its contract: the loop searches a place whose mode is not the listed one.
 use Prim.Native.Nat.{◌≤◌, ◌-◌}
-use mathlib.Core.Path.{◌≡◌, ap}
-use mathlib.Core.Bool.{not, false}
+use mathlib.Core.Path.{◌≡◌}
+use mathlib.Core.Bool.{false}
 use Rattle.laws.specs.Search.{any_below}
 use Rattle.admission.specs.Admission.{other_mode}
 use Rattle.admission.proofs.has_modes.Given as goal

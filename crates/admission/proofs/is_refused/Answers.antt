@@ -1,5 +1,5 @@
 -- `is_refused` meets its contract: the shape that the kind asks for tells it.
-use mathlib.Core.Path.{◌≡◌, sym, ap, ◌∙◌}
+use mathlib.Core.Path.{sym, ap, ◌∙◌}
 use Rattle.admission.specs.declared.Shape.{Shape}
 use Rattle.admission.specs.ByKind.{shape_refused, shape_law}
 use Rattle.admission.proofs.is_refused.Goals as goal

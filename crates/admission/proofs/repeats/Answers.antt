@@ -1,8 +1,6 @@
 -- `repeats` meets its contract: the loop searches the places before i.
-use Prim.Native.Nat.{◌≤◌, ◌-◌}
 use native.Mathlib.Omega.{arith}
-use mathlib.Core.Path.{◌≡◌, sym}
-use mathlib.Core.Bool.{false}
+use mathlib.Core.Path.{sym}
 use borrow.Author.Tests.{eq-eqb, ne_eqb}
 use Rattle.laws.specs.SearchLaws.{any_none, any_found, any_more, missed}
 use Rattle.admission.proofs.repeats.Goals as goal

@@ -1,6 +1,6 @@
 -- `repeats` meets its contract: the loop searches the places before i.
 use Prim.Native.Nat.{◌≤◌, ◌-◌}
-use mathlib.Core.Path.{◌≡◌, sym}
+use mathlib.Core.Path.{◌≡◌}
 use mathlib.Core.Bool.{false}
 use Rattle.laws.specs.Search.{any_below}
 use Rattle.admission.specs.Admission.{cell_before}

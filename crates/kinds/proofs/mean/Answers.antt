@@ -32,7 +32,7 @@ step c =
     let f = c.ranges in
     let s = summed f.left f.right in
     (elim c.if-sum-lt0.branch [
-      then-sum-lt0 below ↦ rw (below.away-is-bits, rw s at below.if-sum-lt0.true)
+      | then-sum-lt0 below ↦ rw (below.away-is-bits, rw s at below.if-sum-lt0.true)
       | else-sum-lt0 above ↦ rw (above.away-is-bits, rw s at above.if-sum-lt0.false)
     ])
 

@@ -67,7 +67,7 @@ unfolding result_of table_of
 returns-in-0 c =
     rw c.refuse.ensures
     (elim c.in-0-1.branch [
-      in-0-1 zero ↦ rw zero.in-0-1.keys7
+      | in-0-1 zero ↦ rw zero.in-0-1.keys7
       | in_default-1 above ↦ let r = above.in_default-1.rest in
-    rw (ne_eqb _ _ r.0.0.0.0.0.0.1, ne_eqb _ _ r.0.0.0.0.0.1, ne_eqb _ _ r.0.0.0.0.1, ne_eqb _ _ r.0.0.0.1, ne_eqb _ _ r.0.0.1, ne_eqb _ _ r.0.1)
+          rw (ne_eqb _ _ r.0.0.0.0.0.0.1, ne_eqb _ _ r.0.0.0.0.0.1, ne_eqb _ _ r.0.0.0.0.1, ne_eqb _ _ r.0.0.0.1, ne_eqb _ _ r.0.0.1, ne_eqb _ _ r.0.1)
     ])

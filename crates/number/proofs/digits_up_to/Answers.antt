@@ -1,7 +1,6 @@
 -- `digits_up_to` meets its contract: the answer for the whole field is that for the bytes from `at` on, after the value so far.
-use Prim.Native.Nat.{◌≤◌, ◌-◌}
 use native.Mathlib.Omega.{arith}
-use mathlib.Core.Path.{◌≡◌, refl, ◌∙◌}
+use mathlib.Core.Path.{refl, ◌∙◌}
 use Rattle.number.specs.NumberLaws.{digit_below, digit_above, digit_between, digits_end, digits_other, digits_more, digits_over}
 use Rattle.number.proofs.digits_up_to.Goals as goal
 

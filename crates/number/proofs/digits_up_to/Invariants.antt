@@ -1,6 +1,6 @@
 -- `digits_up_to` meets its contract: the answer for the whole field is that for the bytes from `at` on, after the value so far.
 use Prim.Native.Nat.{◌≤◌, ◌-◌}
-use mathlib.Core.Path.{◌≡◌, refl, ◌∙◌}
+use mathlib.Core.Path.{◌≡◌}
 use lib.ListN.{length, drop}
 use Rattle.number.specs.Numbers.{digits_up_to}
 use Rattle.number.proofs.digits_up_to.Given as goal

@@ -1,5 +1,5 @@
 -- `put_count` meets its contract, by induction on the number.
-use Rattle.render.specs.PutLaws.{put_then, put_long}
+use Rattle.render.specs.PutLaws.{put_then}
 use Rattle.render.specs.TextLaws.{decimal_one, decimal_more}
 use Rattle.render.proofs.+put_count.Goals as goal
 

@@ -1,11 +1,10 @@
 -- `put_text` meets its contract: after i turns the first i bytes of the text are laid.
-use Prim.Native.Nat.{◌≤◌, ◌-◌}
 use native.Mathlib.Numerals.{add-one}
 use native.Mathlib.Omega.{arith}
 use mathlib.Core.Path.{◌≡◌}
-use lib.ListN.{length, take}
+use lib.ListN.{length}
 use lib.Seq.{take-suc, take-length}
-use Rattle.render.specs.PutLaws.{put_then, put_none, put_long}
+use Rattle.render.specs.PutLaws.{put_then, put_none}
 use Rattle.render.proofs.put_text.Goals as goal
 
 -- before the first turn nothing is laid

@@ -9,7 +9,7 @@ use Rattle.laws.specs.SameHeight.{same_height}
 use Rattle.laws.specs.SameHeightLaws.{same_words}
 use Rattle.dependence.specs.Job.{in_use}
 use Rattle.rules.specs.Values.{value_at}
-use borrow.Author.Rules.{rules, sfits_of}
+use borrow.Author.Rules.{sfits_of}
 use Rattle.runs.proofs.differs_at.Goals as goal
 
 -- a place that is not in use

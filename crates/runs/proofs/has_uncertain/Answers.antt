@@ -1,7 +1,5 @@
 -- `has_uncertain` meets its contract: a search over the four places.
-use Prim.Native.Nat.{◌≤◌, ◌-◌}
 use native.Mathlib.Omega.{arith}
-use mathlib.Core.Bool.{false, ◌&&◌}
 use Rattle.laws.specs.SearchLaws.{any_none, found, passed, missed}
 use Rattle.runs.proofs.has_uncertain.Goals as goal
 

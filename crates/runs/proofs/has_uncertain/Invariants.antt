@@ -3,7 +3,6 @@ use Prim.Native.Nat.{◌≤◌, ◌-◌}
 use mathlib.Core.Bool.{false, ◌&&◌}
 use mathlib.Core.Path.{◌≡◌}
 use Rattle.laws.specs.Search.{any_below}
-use Rattle.laws.specs.SearchLaws.{any_none, found, passed, missed}
 use Rattle.dependence.specs.Job.{in_use, access_at}
 use Rattle.rules.specs.Values.{is_uncertain}
 use Rattle.runs.proofs.has_uncertain.Given as goal

@@ -1,9 +1,7 @@
 -- `is_stale` meets its contract: a search over the four places.
-use Prim.Native.Nat.{◌≤◌, ◌-◌}
 use native.Mathlib.Omega.{arith}
-use mathlib.Core.Bool.{false}
 use Rattle.laws.specs.SearchLaws.{any_none, found, passed, missed}
-use Rattle.runs.specs.RunLaws.{differs_at, present_stale}
+use Rattle.runs.specs.RunLaws.{present_stale}
 use Rattle.runs.proofs.is_stale.Goals as goal
 
 -- before the first turn

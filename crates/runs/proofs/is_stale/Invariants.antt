@@ -3,8 +3,7 @@ use Prim.Native.Nat.{◌≤◌, ◌-◌}
 use mathlib.Core.Bool.{false}
 use mathlib.Core.Path.{◌≡◌}
 use Rattle.laws.specs.Search.{any_below}
-use Rattle.laws.specs.SearchLaws.{any_none, found, passed, missed}
-use Rattle.runs.specs.RunLaws.{differs_at, present_stale}
+use Rattle.runs.specs.RunLaws.{differs_at}
 use Rattle.runs.proofs.is_stale.Given as goal
 
 -- none of the places passed

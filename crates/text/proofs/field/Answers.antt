@@ -1,9 +1,8 @@
 -- `field` meets its contract: field k of the line is field `left` of what stands from `at` on.
-use Prim.Native.Nat.{◌≤◌, ◌-◌}
 use native.Mathlib.Nat.{sub_self}
 use native.Mathlib.Omega.{arith}
-use mathlib.Core.Path.{◌≡◌, refl, sym, ◌∙◌}
-use Rattle.text.specs.Pieces.{pieces, space}
+use mathlib.Core.Path.{refl, sym, ◌∙◌}
+use Rattle.text.specs.Pieces.{space}
 use Rattle.text.specs.PieceLaws.{last_piece, next_piece, head_piece, later_piece}
 use Rattle.text.proofs.field.Goals as goal
 

@@ -1,7 +1,7 @@
 -- `field` meets its contract: field k of the line is field `left` of what stands from `at` on.
 use Prim.Native.Nat.{◌≤◌, ◌-◌}
 use mathlib.Core.List.{[]}
-use mathlib.Core.Path.{◌≡◌, refl, sym, ◌∙◌}
+use mathlib.Core.Path.{◌≡◌}
 use lib.ListN.{length, drop, get_or}
 use Rattle.text.specs.Pieces.{pieces, space}
 use Rattle.text.proofs.field.Given as goal

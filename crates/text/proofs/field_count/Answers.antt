@@ -1,7 +1,6 @@
 -- `field_count` meets its contract: the fields of the line are those counted and those of what stands from `at` on.
-use Prim.Native.Nat.{◌≤◌, ◌-◌, ◌+◌}
 use native.Mathlib.Omega.{arith}
-use Rattle.text.specs.Pieces.{pieces, space}
+use Rattle.text.specs.Pieces.{space}
 use Rattle.text.specs.PieceLaws.{last_piece, next_piece}
 use Rattle.text.proofs.field_count.Goals as goal
 

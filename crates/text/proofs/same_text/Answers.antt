@@ -1,8 +1,6 @@
 -- `same_text` meets its contract: of equal lengths, the two are the same where they are so from place i on.
-use Prim.Native.Nat.{◌≤◌, ◌-◌}
 use native.Mathlib.Omega.{arith}
-use mathlib.Core.Path.{◌≡◌, refl, sym, ◌∙◌}
-use lib.ListN.{length, drop}
+use mathlib.Core.Path.{refl, sym, ◌∙◌}
 use borrow.Author.Tests.{eq-eqb, ne_eqb}
 use Rattle.text.specs.SameTextLaws.{same_at, same_end, same_long}
 use Rattle.text.proofs.same_text.Goals as goal

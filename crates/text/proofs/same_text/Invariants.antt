@@ -1,6 +1,6 @@
 -- `same_text` meets its contract: of equal lengths, the two are the same where they are so from place i on.
 use Prim.Native.Nat.{◌≤◌, ◌-◌}
-use mathlib.Core.Path.{◌≡◌, refl, sym, ◌∙◌}
+use mathlib.Core.Path.{◌≡◌}
 use lib.ListN.{length, drop}
 use Rattle.text.specs.SameText.{same_text}
 use Rattle.text.proofs.same_text.Given as goal

@@ -1,8 +1,8 @@
 -- `Cells::of` meets its contract: the places in use one after the other.
 use native.Mathlib.Omega.{arith}
-use Prim.Native.Nat.{◌≤◌, ◌-◌, min}
+use Prim.Native.Nat.{min}
 use mathlib.Core.Path.{◌≡◌, ◌∙◌}
-use Rattle.cellset.specs.CellLaws.{cells_below, cells_none, cells_more, cells_used}
+use Rattle.cellset.specs.CellLaws.{cells_none, cells_more, cells_used}
 use Rattle.cellset.proofs.Cells.of.Goals as goal
 
 pub loop-i-init : goal.loop-i-init

@@ -1,7 +1,7 @@
 -- `Cells::of` meets its contract: the places in use one after the other.
 use Prim.Native.Nat.{◌≤◌, ◌-◌, min}
-use mathlib.Core.Path.{◌≡◌, ◌∙◌}
-use Rattle.cellset.specs.CellLaws.{cells_below, cells_none, cells_more, cells_used}
+use mathlib.Core.Path.{◌≡◌}
+use Rattle.cellset.specs.CellLaws.{cells_below}
 use Rattle.cellset.proofs.Cells.of.Given as goal
 
 -- the places before i

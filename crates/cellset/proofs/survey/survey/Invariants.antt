@@ -1,7 +1,7 @@
 -- `survey` meets its contract: the pass of specs/SurveyPass.antt, a job a turn.
-use Prim.Native.Nat.{◌≤◌, ◌+◌, ◌-◌}
-use mathlib.Core.Path.{◌≡◌, ◌∙◌}
-use Rattle.cellset.specs.Survey.{columns, earlier_than, rank_at, Surveyed}
+use Prim.Native.Nat.{◌≤◌, ◌-◌}
+use mathlib.Core.Path.{◌≡◌}
+use Rattle.cellset.specs.Survey.{columns, earlier_than, Surveyed}
 use Rattle.cellset.proofs.survey.survey.Given as goal
 
 abbrev pub invariant-loop-j : goal.invariant-loop-j

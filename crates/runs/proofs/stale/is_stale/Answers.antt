@@ -1,9 +1,6 @@
 -- `is_stale` meets its contract: a search over the four places.
-use Prim.Native.Nat.{◌≤◌, ◌-◌}
 use native.Mathlib.Omega.{arith}
-use mathlib.Core.Bool.{false}
 use Rattle.laws.specs.SearchLaws.{any_none, found, passed, missed}
-use Rattle.rules.specs.Values.{value_at, stale_at}
 use Rattle.runs.proofs.stale.is_stale.Goals as goal
 
 pub loop-i-init : goal.loop-i-init

@@ -10,7 +10,7 @@ use borrow.Author.Tests.{le-leb, lt-leb}
 use mir.Syntax.{w32}
 use Rattle.laws.specs.SameHeightLaws.{same_words}
 use Rattle.dependence.specs.Job.{access_at}
-use borrow.Author.Rules.{rules, sfits_of}
+use borrow.Author.Rules.{sfits_of}
 use Rattle.runs.proofs.stale.stale_at.Goals as goal
 
 -- a place that is not in use

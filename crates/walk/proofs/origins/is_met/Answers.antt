@@ -1,10 +1,7 @@
 -- `is_met` meets its contract: a search over the places of a job that is not committed.
 use native.Mathlib.Omega.{arith}
-use Prim.Native.Nat.{◌≤◌, ◌-◌}
-use mathlib.Core.Bool.{false}
 use borrow.Author.Tests.{eq-eqb, ne_eqb}
 use Rattle.laws.specs.SearchLaws.{any_none, found, passed, missed}
-use Rattle.walk.specs.Origins.{wanted_at}
 use Rattle.walk.proofs.origins.is_met.Goals as goal
 
 -- a committed job

@@ -3,7 +3,6 @@ use Prim.Native.Nat.{◌≤◌, ◌-◌}
 use mathlib.Core.Bool.{false}
 use mathlib.Core.Path.{◌≡◌}
 use Rattle.laws.specs.Search.{any_below}
-use Rattle.laws.specs.SearchLaws.{any_none, found, passed, missed}
 use Rattle.walk.specs.Origins.{wanted_at}
 use Rattle.walk.proofs.origins.is_met.Given as goal
 

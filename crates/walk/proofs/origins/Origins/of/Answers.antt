@@ -1,8 +1,8 @@
 -- `Origins::of` meets its contract: a job a turn, by the laws of specs/OriginLaws.antt.
 use native.Mathlib.Omega.{arith}
-use Prim.Native.Nat.{◌≤◌, ◌-◌}
+use Prim.Native.Nat.{◌-◌}
 use mathlib.Core.Path.{◌≡◌, sym, ◌∙◌}
-use Rattle.walk.specs.OriginLaws.{Walked, walk_start, walk_unmet, walk_met, walk_done, walk_end}
+use Rattle.walk.specs.OriginLaws.{walk_start, walk_unmet, walk_met, walk_done, walk_end}
 use Rattle.walk.proofs.origins.Origins.of.Goals as goal
 
 pub loop-i-init : goal.loop-i-init
@@ -26,24 +26,22 @@ past-next-requires c =
 
 -- a job that is met
 pub loop-i-preserved-then-is_met : goal.loop-i-preserved-then-is_met
-loop-i-preserved-then-is_met c =
-    (
-      omega arith,
-      rw c.past-next.ensures
-          (walk_met c.args.jobs c.args.committed c.args.j c.requires.0 c.requires.1 c.loop-i.i c.loop-i.walk
-          c.loop-i-test.true c.loop-i.invariant.0 c.loop-i.invariant.1
-          (sym c.is_met.ensures ∙ c.if-is_met.true)),
-    )
+loop-i-preserved-then-is_met c = (
+  omega arith,
+  rw c.past-next.ensures
+      (walk_met c.args.jobs c.args.committed c.args.j c.requires.0 c.requires.1 c.loop-i.i c.loop-i.walk
+      c.loop-i-test.true c.loop-i.invariant.0 c.loop-i.invariant.1
+      (sym c.is_met.ensures ∙ c.if-is_met.true)),
+)
 
 -- one that is passed by
 pub loop-i-preserved : goal.loop-i-preserved
-loop-i-preserved c =
-    (
-      omega arith,
-      walk_unmet c.args.jobs c.args.committed c.args.j c.requires.0 c.requires.1 c.loop-i.i c.loop-i.walk
-          c.loop-i-test.true c.loop-i.invariant.0 c.loop-i.invariant.1
-          (sym c.is_met.ensures ∙ c.if-is_met.false),
-    )
+loop-i-preserved c = (
+  omega arith,
+  walk_unmet c.args.jobs c.args.committed c.args.j c.requires.0 c.requires.1 c.loop-i.i c.loop-i.walk
+      c.loop-i-test.true c.loop-i.invariant.0 c.loop-i.invariant.1
+      (sym c.is_met.ensures ∙ c.if-is_met.false),
+)
 
 -- before the first job
 pub returns : goal.returns

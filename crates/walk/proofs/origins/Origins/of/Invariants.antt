@@ -1,6 +1,6 @@
 -- `Origins::of` meets its contract: a job a turn, by the laws of specs/OriginLaws.antt.
-use Prim.Native.Nat.{◌≤◌, ◌-◌}
-use Rattle.walk.specs.OriginLaws.{Walked, walk_start, walk_unmet, walk_met, walk_done, walk_end}
+use Prim.Native.Nat.{◌≤◌}
+use Rattle.walk.specs.OriginLaws.{Walked}
 use Rattle.walk.proofs.origins.Origins.of.Given as goal
 
 -- the walk has come to job i
