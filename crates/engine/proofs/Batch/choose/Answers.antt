@@ -253,7 +253,7 @@ pub pick_for-pick-requires : goal.pick_for-pick-requires
 pick_for-pick-requires c = c.loop-p.invariant.1
 
 -- the step of the largest rank
--- ? by hand: no place above Start in at.before.before.before.before.before.before.before.before.before.before.before.before.before.before.before.before.before.before.before.before.args.t1; no step step_of_lem at After-step_of (c.before.step_of_lem.ensures)
+-- ? by hand: no place above Start in at.before.before.before.before.before.before.before.before.before.before.before.before.before.before.before.before.before.before.before.before.args.t1; no step step_of at After-step_of (c.before.step_of.ensures)
 pub returns : goal.returns
 returns c =
     let l2 = c.loop-p in
@@ -266,7 +266,7 @@ returns c =
     rw c.top_of-top.ensures (top_limit _ 3 l2.ranks (λ i h. l2.invariant.6 i (omega arith))) in
     let some : 0 < c.top_of-top.result = above_none _ c.if-top-eq0.false in
     c.named.ensures
-    ∙ ap (λ (step : ℕ). named step c.pick_for-pick.result) c.before.step_of_lem.ensures
+    ∙ ap (λ (step : ℕ). named step c.pick_for-pick.result) c.before.step_of.ensures
     ∙ ap (named (step_of c.top_of-top.result))
     (c.pick_for-pick.ensures
     ∙ pick_is b form closed l.names l.written l.sure l.back l.arities (rw e (goal.at.returns c).Else-self-eq0 l.invariant.5) l2.ranks l2.invariant.5

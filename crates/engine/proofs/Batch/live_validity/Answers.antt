@@ -8,30 +8,27 @@ use Rattle.engine.specs.InvalidRun.{run_stale}
 use Rattle.engine.proofs.Batch.live_validity.Goals as goal
 
 -- it is invalid
--- ? by hand: no step is_ready_lem at After-is_ready (ready.is_ready_lem.ensures)
 pub returns-then-is_stale : goal.returns-then-is_stale
 returns-then-is_stale c =
     let a = c.args in
     let due : is_ready (snapshot_of a.self) a.j ≡ true =
-    ready_is a.self a.j ∙ sym ready.is_ready_lem.ensures ∙ c.if-is_ready.true in
+    ready_is a.self a.j ∙ sym c.is_ready.ensures ∙ c.if-is_ready.true in
     let compared : run_stale a.self a.j ≡ true = sym c.is_stale.ensures ∙ c.if-is_stale.true in
     rw (due, compared)
 
 -- it is valid
--- ? by hand: no step is_ready_lem at After-is_ready (ready.is_ready_lem.ensures)
 pub returns-then-is_ready : goal.returns-then-is_ready
 returns-then-is_ready c =
     let a = c.args in
     let due : is_ready (snapshot_of a.self) a.j ≡ true =
-    ready_is a.self a.j ∙ sym ready.is_ready_lem.ensures ∙ c.if-is_ready.true in
+    ready_is a.self a.j ∙ sym c.is_ready.ensures ∙ c.if-is_ready.true in
     let compared : run_stale a.self a.j ≡ false = sym c.is_stale.ensures ∙ c.if-is_stale.false in
     rw (due, compared)
 
 -- its job is not ready
--- ? by hand: no step is_ready_lem at After-is_ready (ready.is_ready_lem.ensures)
 pub returns : goal.returns
 returns c =
     let a = c.args in
     let early : is_ready (snapshot_of a.self) a.j ≡ false =
-    ready_is a.self a.j ∙ sym ready.is_ready_lem.ensures ∙ c.if-is_ready.false in
+    ready_is a.self a.j ∙ sym c.is_ready.ensures ∙ c.if-is_ready.false in
     rw early

@@ -80,7 +80,7 @@ plain_here : (c : goal.Joined-top-eq1) → (c.top_of-top.result ≡ 1 → ⊥)
 plain_here c other =
     elim c.if-top-eq1.branch [
       then-top-eq1 w ↦ absurd (other w.if-top-eq1.true)
-      | else-top-eq1 w ↦ w.change-is ∙ rw c.before.before.before.before.before.before.before.before.step_of_lem.ensures at c.plain_change-change.ensures
+      | else-top-eq1 w ↦ w.change-is ∙ rw c.before.before.before.before.before.before.before.before.step_of.ensures at c.plain_change-change.ensures
     ]
 
 guess-here : (c : goal.Joined-top-eq1) → c.top_of-top.result ≡ 1
@@ -304,7 +304,7 @@ pub loop-count-smaller-then-touches_others : goal.loop-count-smaller-then-touche
 loop-count-smaller-then-touches_others c = steps_fall _ _ _ _ _ c.loop-count-test.true c.loop-count.invariant.3 (count_limit _ _)
 
 -- a step taken, and the jobs surveyed again
--- ? by hand: no step step_of_lem at After-picked (c.before.before.before.before.before.before.before.before.before.before.before.before.before.before.before.before.before.before.before.before.before.before.before.before.step_of_lem.ensures)
+-- ? by hand: no step step_of at After-picked (c.before.before.before.before.before.before.before.before.before.before.before.before.before.before.before.before.before.before.before.before.before.before.before.before.step_of.ensures)
 pub loop-count-preserved-then-touches_others : goal.loop-count-preserved-then-touches_others
 unfolding with_job_changed
 loop-count-preserved-then-touches_others c =
@@ -320,13 +320,13 @@ loop-count-preserved-then-touches_others c =
     ranks_anew g t.result t.ensures in-range.0 in-range.1 picked.0 change (plain_here (goal.at.loop-count-preserved-then-touches_others c).After-plain_change-change) (guess-here (goal.at.loop-count-preserved-then-touches_others c).After-plain_change-change)
     c.survey-then-touches_others.ensures in
     let after = step_taken g t.result t.ensures in-range.0 in-range.1 picked.0 change (plain_here (goal.at.loop-count-preserved-then-touches_others c).After-plain_change-change) (guess-here (goal.at.loop-count-preserved-then-touches_others c).After-plain_change-change) below right ranked in
-    (omega (arith, below), l.invariant.1, omega (arith, l.invariant.2), l.invariant.3, rw c.before.before.before.before.before.before.before.before.before.before.before.before.before.before.before.before.before.before.before.before.before.before.before.before.step_of_lem.ensures after)
+    (omega (arith, below), l.invariant.1, omega (arith, l.invariant.2), l.invariant.3, rw c.before.before.before.before.before.before.before.before.before.before.before.before.before.before.before.before.before.before.before.before.before.before.before.before.step_of.ensures after)
 
 pub loop-count-smaller : goal.loop-count-smaller
 loop-count-smaller c = steps_fall _ _ _ _ _ c.loop-count-test.true c.loop-count.invariant.3 (count_limit _ _)
 
 -- a start that leaves the other jobs as they are
--- ? by hand: no step step_of_lem at After-step_of (c.before.before.before.before.before.before.before.before.before.before.before.before.before.before.step_of_lem.ensures)
+-- ? by hand: no step step_of at After-step_of (c.before.before.before.before.before.before.before.before.before.before.before.before.before.before.step_of.ensures)
 pub loop-count-preserved : goal.loop-count-preserved
 unfolding with_job_changed
 loop-count-preserved c =
@@ -342,7 +342,7 @@ loop-count-preserved c =
     ranks_left g t.result t.ensures in-range.0 in-range.1 picked.0 change (plain_here (goal.at.loop-count-preserved c).Joined-top-eq1) (guess-here (goal.at.loop-count-preserved c).Joined-top-eq1) picked.1
     (sym c.touches_others.ensures ∙ c.if-touches_others.false) in
     let after = step_taken g t.result t.ensures in-range.0 in-range.1 picked.0 change (plain_here (goal.at.loop-count-preserved c).Joined-top-eq1) (guess-here (goal.at.loop-count-preserved c).Joined-top-eq1) below right ranked in
-    (omega (arith, below), l.invariant.1, omega (arith, l.invariant.2), l.invariant.3, rw c.before.before.before.before.before.before.before.before.before.before.before.before.before.before.step_of_lem.ensures after)
+    (omega (arith, below), l.invariant.1, omega (arith, l.invariant.2), l.invariant.3, rw c.before.before.before.before.before.before.before.before.before.before.before.before.before.before.step_of.ensures after)
 
 -- all taken, or nothing to take
 -- ? by hand: no place above Start in c.before.before.before.before.before.before.before.before.before.before.before.before.before.before.before.before.before.before.before.args
