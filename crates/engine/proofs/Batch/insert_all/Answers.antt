@@ -3,7 +3,6 @@ use native.Mathlib.Omega.{arith}
 use borrow.Author.Rules.{rules}
 use borrow.Author.Tests.{not-false}
 use Prim.Native.Nat.{◌≤◌, ◌+◌, ◌-◌}
-use lib.ListN.{length-map}
 use mathlib.Core.Path.{◌≡◌, sym, ◌∙◌}
 use Rattle.laws.specs.SearchLaws.{not_true}
 use Rattle.engine.specs.Record.{blank_run}
@@ -28,10 +27,9 @@ pub returns-then-refused-ne0 : goal.returns-then-refused-ne0
 returns-then-refused-ne0 c =
     let a = c.args in
     let form = sym c.is_in_form-formed.ensures ∙ not-false _ c.if-not-formed.false-raw in
-    let g = c.well_formed.0.1.1.1.1.1.1.1 in
     let sized : Sized a.self = record {
-      jobs_length = sym (length-map a.self.jobs _) ∙ g.0.1.0.1;
-      runs_length = sym (length-map a.self.runs _) ∙ g.1.0.1.0.1;
+      jobs_length = search rules;
+      runs_length = search rules;
       committed_length = search rules;
       running_length = search rules;
       phase_length = search rules;
@@ -43,10 +41,9 @@ pub loop-k-init : goal.loop-k-init
 loop-k-init c =
     let a = c.args in
     let form = sym c.is_in_form-formed.ensures ∙ not-false _ c.if-not-formed.false-raw in
-    let g = c.well_formed.0.1.1.1.1.1.1.1 in
     let sized : Sized a.self = record {
-      jobs_length = sym (length-map a.self.jobs _) ∙ g.0.1.0.1;
-      runs_length = sym (length-map a.self.runs _) ∙ g.1.0.1.0.1;
+      jobs_length = search rules;
+      runs_length = search rules;
       committed_length = search rules;
       running_length = search rules;
       phase_length = search rules;
