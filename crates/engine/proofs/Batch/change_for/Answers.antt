@@ -1,16 +1,16 @@
 -- `Batch::change_for` meets its contract: the record's check as `is_in_form` makes it, what every step asks, and the change.
 use native.Mathlib.Omega.{arith}
 use borrow.Author.Tests.{ne_eqb}
-use Prim.Native.Nat.{ℕ, ◌<◌, ◌≤◌, ◌-◌}
+use Prim.Native.Nat.{ℕ}
 use mathlib.Core.Bool.{false, not}
 use mathlib.Core.Path.{◌≡◌, refl, sym, ◌∙◌, ap}
 use Rattle.laws.specs.Search.{any_below}
 use Rattle.laws.specs.SearchLaws.{any_none, passed, missed}
 use Rattle.dependence.specs.Ready.{blocks}
-use Rattle.engine.specs.Change.{asked_below, change_for, change_on}
+use Rattle.engine.specs.Change.{asked_below}
 use Rattle.engine.specs.FormLaws.{form_walks}
 use Rattle.engine.specs.ChangeLaws.{still_none, plain_made, guess_made, out_of_form_refused, no_step_refused, unsealed_refused, no_job_refused, change_made, asked_le}
-use Rattle.engine.specs.FormPass.{StatesIn, refused_at, run_out_at, few_jobs, states_in, counts_out_of_form, committed_out_of_form, running_out_of_form, phase_out_of_form, refused_out_of_form, run_out_of_form, all_seen}
+use Rattle.engine.specs.FormPass.{refused_at, few_jobs, states_in, counts_out_of_form, committed_out_of_form, running_out_of_form, phase_out_of_form, refused_out_of_form, run_out_of_form, all_seen}
 use Rattle.engine.proofs.Batch.change_for.Goals as goal
 
 -- a count
@@ -19,80 +19,68 @@ returns-then-counts_out r =
     let a = r.args in
     r.refused_change.ensures ∙ out_of_form_refused a.self a.number a.j a.report (counts_out_of_form a.self r.counts_out.ensures r.if-counts_out.true)
 
--- ? by hand: no place above Start in t1.before.before.args.t1
 pub top_of-requires : goal.top_of-requires
 top_of-requires c =
-    few_jobs t1.before.before.args.t1 c.counts_out.ensures c.if-counts_out.false
+    few_jobs c.args.self c.counts_out.ensures c.if-counts_out.false
 
 -- a column
--- ? by hand: no place above Start in c.before.before.before.before.before.before.args
 pub returns-then-top_of-gt2 : goal.returns-then-top_of-gt2
 returns-then-top_of-gt2 r =
-    let a = c.before.before.before.before.before.before.args in
-    r.refused_change-then-top_of-gt2.ensures ∙ out_of_form_refused a.t1 a.number a.j a.report (committed_out_of_form a.t1 r.top_of.ensures r.if-top_of-gt2.true)
+    let a = r.args in
+    r.refused_change-then-top_of-gt2.ensures ∙ out_of_form_refused a.self a.number a.j a.report (committed_out_of_form a.self r.top_of.ensures r.if-top_of-gt2.true)
 
--- ? by hand: no place above Start in t1.before.before.args.t1; no place above Start in t1.before.counts-out.ensures
 pub top_of-requires-2 : goal.top_of-requires-2
 top_of-requires-2 c =
-    few_jobs t1.before.before.args.t1 t1.before.counts-out.ensures c.if-counts_out.false
+    few_jobs c.args.self c.counts_out.ensures c.if-counts_out.false
 
--- ? by hand: no place above Start in t2.before.before.before.before.before.before.args
 pub returns-then-top_of-gt1 : goal.returns-then-top_of-gt1
 returns-then-top_of-gt1 r =
-    let a = t2.before.before.before.before.before.before.args in
-    r.refused_change-then-top_of-gt1.ensures ∙ out_of_form_refused a.t1 a.number a.j a.report (running_out_of_form a.t1 r.top_of-2.ensures r.if-top_of-gt1.true)
+    let a = r.args in
+    r.refused_change-then-top_of-gt1.ensures ∙ out_of_form_refused a.self a.number a.j a.report (running_out_of_form a.self r.top_of-2.ensures r.if-top_of-gt1.true)
 
--- ? by hand: no place above Start in t2.before.before.before.before
 pub top_of-requires-3 : goal.top_of-requires-3
 top_of-requires-3 c =
-    let t1 = t2.before.before.before.before in
-    few_jobs t1.before.before.args.t1 t1.before.counts_out.ensures t1.if1.false
+    few_jobs c.args.self c.counts_out.ensures c.if-counts_out.false
 
--- ? by hand: no place above Start in t2.before.before.before.before.before.before.args
 pub returns-then-top_of-gt3 : goal.returns-then-top_of-gt3
 returns-then-top_of-gt3 r =
-    let a = t2.before.before.before.before.before.before.args in
-    r.refused_change-then-top_of-gt3.ensures ∙ out_of_form_refused a.t1 a.number a.j a.report (phase_out_of_form a.t1 r.top_of-3.ensures r.if-top_of-gt3.true)
+    let a = r.args in
+    r.refused_change-then-top_of-gt3.ensures ∙ out_of_form_refused a.self a.number a.j a.report (phase_out_of_form a.self r.top_of-3.ensures r.if-top_of-gt3.true)
 
--- ? by hand: no place above Start in t2.before.before.before.before
 pub loop-i-init : goal.loop-i-init
 loop-i-init c =
-    let t1 = t2.before.before.before.before in
-    let b = t1.before.before.args.t1 in
-    let counts = t1.before.counts_out.ensures in (
+    let b = c.args.self in
+    let counts = c.counts_out.ensures in (
       omega arith,
-      few_jobs b counts t1.if1.false,
+      few_jobs b counts c.if-counts_out.false,
       refl,
-      states_in b counts t1.if1.false c.top_of.ensures c.if-top_of-gt2.false
+      states_in b counts c.if-counts_out.false c.top_of.ensures c.if-top_of-gt2.false
           c.top_of-2.ensures c.if-top_of-gt1.false c.top_of-3.ensures c.if-top_of-gt3.false,
       any_none _,
     )
 
 -- a job
--- ? by hand: no place above Start in l.before.before.before.before.before.before.before.before.before.before.before.before.before.before.before.args
 pub returns-then-is_refused : goal.returns-then-is_refused
 returns-then-is_refused r =
-    let a = l.before.before.before.before.before.before.before.before.before.before.before.before.before.before.before.args in
-    r.refused_change-then-is_refused.ensures ∙ out_of_form_refused a.t1 a.number a.j a.report (refused_out_of_form a.t1 r.loop-i.i (rw (← r.loop-i.invariant.2) r.loop-i-test.true) r.is_refused.ensures r.if-is_refused.true)
+    let a = r.args in
+    r.refused_change-then-is_refused.ensures ∙ out_of_form_refused a.self a.number a.j a.report (refused_out_of_form a.self r.loop-i.i (rw (← r.loop-i.invariant.2) r.loop-i-test.true) r.is_refused.ensures r.if-is_refused.true)
 
 pub loop-i-preserved : goal.loop-i-preserved
 loop-i-preserved c =
     let l = c.loop-i in
     (omega arith, l.invariant.1, l.invariant.2, l.invariant.3, passed _ _ l.invariant.4 c.is_refused.ensures c.if-is_refused.false)
 
--- ? by hand: no place above Start in c.before.before.before.before.before.before.before.before.before.before.before.before.before.before.before.before.args.t1
 pub loop-k-init : goal.loop-k-init
 loop-k-init c =
-    let b = c.before.before.before.before.before.before.before.before.before.before.before.before.before.before.before.before.args.t1 in
+    let b = c.args.self in
     let l = c.loop-i in
     (omega arith, l.invariant.1, l.invariant.2, l.invariant.3, sym (missed _ _ (refused_at b) l.invariant.0 c.loop-i-test.false l.invariant.4), any_none _)
 
 -- a run
--- ? by hand: no place above Start in l.before.before.before.before.before.before.before.before.before.before.before.before.before.before.before.before.before.args
 pub returns-then-run_out : goal.returns-then-run_out
 returns-then-run_out r =
-    let a = l.before.before.before.before.before.before.before.before.before.before.before.before.before.before.before.before.before.args in
-    r.refused_change-then-run_out.ensures ∙ out_of_form_refused a.t1 a.number a.j a.report (run_out_of_form a.t1 r.loop-k.k (rw (← r.loop-k.invariant.2) r.loop-k-test.true) r.run_out.ensures r.if-run_out.true)
+    let a = r.args in
+    r.refused_change-then-run_out.ensures ∙ out_of_form_refused a.self a.number a.j a.report (run_out_of_form a.self r.loop-k.k (rw (← r.loop-k.invariant.2) r.loop-k-test.true) r.run_out.ensures r.if-run_out.true)
 
 pub loop-k-preserved : goal.loop-k-preserved
 loop-k-preserved c =
@@ -100,31 +88,28 @@ loop-k-preserved c =
     (omega arith, l.invariant.1, l.invariant.2, l.invariant.3, l.invariant.4, passed _ _ l.invariant.5 c.run_out.ensures c.if-run_out.false)
 
 -- no such step
--- ? by hand: no place above Start in c.before.before.before.before.before.before.before.before.before.before.before.before.before.before.before.before.before.before.before.args
 pub returns-then-number-gt4 : goal.returns-then-number-gt4
 returns-then-number-gt4 r =
     let i = r.loop-k.invariant in
-    let a = c.before.before.before.before.before.before.before.before.before.before.before.before.before.before.before.before.before.before.before.args in
-    let form = all_seen a.t1 i.2 i.3 i.4 i.0 r.loop-k-test.false i.5 in
-    r.refused_change-then-number-gt4.ensures ∙ no_step_refused a.t1 a.number a.j a.report form r.if-number-gt4.true
+    let a = r.args in
+    let form = all_seen a.self i.2 i.3 i.4 i.0 r.loop-k-test.false i.5 in
+    r.refused_change-then-number-gt4.ensures ∙ no_step_refused a.self a.number a.j a.report form r.if-number-gt4.true
 
 -- not sealed
--- ? by hand: no place above Start in d.before.before.before.before.before.before.before.before.before.before.before.before.before.before.before.before.before.before.args
 pub returns-then-self-eq0 : goal.returns-then-self-eq0
 returns-then-self-eq0 r =
     let i = r.loop-k.invariant in
-    let a = d.before.before.before.before.before.before.before.before.before.before.before.before.before.before.before.before.before.before.args in
-    let form = all_seen a.t1 i.2 i.3 i.4 i.0 r.loop-k-test.false i.5 in
-    r.refused_change-then-self-eq0.ensures ∙ unsealed_refused a.t1 a.number a.j a.report form r.if-number-gt4.false r.if-self-eq0.true
+    let a = r.args in
+    let form = all_seen a.self i.2 i.3 i.4 i.0 r.loop-k-test.false i.5 in
+    r.refused_change-then-self-eq0.ensures ∙ unsealed_refused a.self a.number a.j a.report form r.if-number-gt4.false r.if-self-eq0.true
 
 -- no such job
--- ? by hand: no place above Start in d.before.before.before.before.before.before.before.before.before.before.before.before.before.before.before.before.before.before.args
 pub returns-then-n-j : goal.returns-then-n-j
 returns-then-n-j r =
     let i = r.loop-k.invariant in
-    let a = d.before.before.before.before.before.before.before.before.before.before.before.before.before.before.before.before.before.before.args in
-    let form = all_seen a.t1 i.2 i.3 i.4 i.0 r.loop-k-test.false i.5 in
-    r.refused_change-then-n-j.ensures ∙ no_job_refused a.t1 a.number a.j a.report form r.if-number-gt4.false (ne_eqb _ _ r.if-self-eq0.false) (rw (← i.2) r.if-n-j.true)
+    let a = r.args in
+    let form = all_seen a.self i.2 i.3 i.4 i.0 r.loop-k-test.false i.5 in
+    r.refused_change-then-n-j.ensures ∙ no_job_refused a.self a.number a.j a.report form r.if-number-gt4.false (ne_eqb _ _ r.if-self-eq0.false) (rw (← i.2) r.if-n-j.true)
 
 pub offset_bounds-self-j : goal.offset_bounds-self-j
 offset_bounds-self-j c =
@@ -161,19 +146,18 @@ bounds-self-j-5 c =
     let i = c.loop-k.invariant in
     omega (arith, i.1, c.if-n-j.false)
 
--- ? by hand: no place above Start in d.before.before.before.before.before.before.before.before.before.before.before.before.before.before.before.before.before.before.args
 pub loop-m-init : goal.loop-m-init
 loop-m-init c =
     let i = c.loop-k.invariant in
-    let a = d.before.before.before.before.before.before.before.before.before.before.before.before.before.before.before.before.before.before.args in
-    let form = all_seen a.t1 i.2 i.3 i.4 i.0 c.loop-k-test.false i.5 in (
+    let a = c.args in
+    let form = all_seen a.self i.2 i.3 i.4 i.0 c.loop-k-test.false i.5 in (
       omega arith,
       rw c.asked_below-far.ensures (asked_le a.number a.j),
       omega (arith, i.1, c.if-n-j.false),
       c.asked_below-far.ensures,
       ap not (sym (any_none _)),
-      change_made a.t1 a.number a.j a.report form c.if-number-gt4.false (ne_eqb _ _ c.if-self-eq0.false) (rw (← i.2) c.if-n-j.false),
-      form_walks a.t1 form a.j (rw (← i.2) c.if-n-j.false),
+      change_made a.self a.number a.j a.report form c.if-number-gt4.false (ne_eqb _ _ c.if-self-eq0.false) (rw (← i.2) c.if-n-j.false),
+      form_walks a.self form a.j (rw (← i.2) c.if-n-j.false),
     )
 
 pub offset_bounds-self-m : goal.offset_bounds-self-m
@@ -205,21 +189,19 @@ pub speculation_change-requires : goal.speculation_change-requires
 speculation_change-requires c = let l = c.loop-m in (l.invariant.2, l.invariant.6)
 
 -- a guess
--- ? by hand: no place above Start in out.before.before.before.before.before.before.before.before.before.before.before.before.before.before.before.before.before.before.before.before.before.before.before.before.before.before.before.before.before.before.args
 pub returns-then-number-eq1 : goal.returns-then-number-eq1
 returns-then-number-eq1 c =
     let l = c.loop-m in
-    let a = out.before.before.before.before.before.before.before.before.before.before.before.before.before.before.before.before.before.before.before.before.before.before.before.before.before.before.before.before.before.before.args in
+    let a = c.args in
     let all : l.m ≡ asked_below a.number a.j = omega (arith, l.invariant.0, c.loop-m-test.false) ∙ l.invariant.3 in
-    let seen = l.invariant.4 ∙ ap (λ (n : ℕ). not (any_below n (blocks a.t1.jobs a.t1.committed a.j))) all in
-    guess_made a.t1 a.number a.j a.report seen c.if-number-eq1.true c.speculation_change.ensures ∙ l.invariant.5
+    let seen = l.invariant.4 ∙ ap (λ (n : ℕ). not (any_below n (blocks a.self.jobs a.self.committed a.j))) all in
+    guess_made a.self a.number a.j a.report seen c.if-number-eq1.true c.speculation_change.ensures ∙ l.invariant.5
 
 -- any other step
--- ? by hand: no place above Start in out.before.before.before.before.before.before.before.before.before.before.before.before.before.before.before.before.before.before.before.before.before.before.before.before.before.before.before.before.before.before.args
 pub returns : goal.returns
 returns c =
     let l = c.loop-m in
-    let a = out.before.before.before.before.before.before.before.before.before.before.before.before.before.before.before.before.before.before.before.before.before.before.before.before.before.before.before.before.before.before.args in
+    let a = c.args in
     let all : l.m ≡ asked_below a.number a.j = omega (arith, l.invariant.0, c.loop-m-test.false) ∙ l.invariant.3 in
-    let seen = l.invariant.4 ∙ ap (λ (n : ℕ). not (any_below n (blocks a.t1.jobs a.t1.committed a.j))) all in
-    plain_made a.t1 a.number a.j a.report seen (ne_eqb _ _ c.if-number-eq1.false) c.plain_change.ensures ∙ l.invariant.5
+    let seen = l.invariant.4 ∙ ap (λ (n : ℕ). not (any_below n (blocks a.self.jobs a.self.committed a.j))) all in
+    plain_made a.self a.number a.j a.report seen (ne_eqb _ _ c.if-number-eq1.false) c.plain_change.ensures ∙ l.invariant.5

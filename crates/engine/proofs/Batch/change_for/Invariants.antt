@@ -1,13 +1,12 @@
 -- `Batch::change_for` meets its contract: the record's check as `is_in_form` makes it, what every step asks, and the change.
-use Prim.Native.Nat.{ℕ, ◌<◌, ◌≤◌, ◌-◌}
+use Prim.Native.Nat.{◌<◌, ◌≤◌, ◌-◌}
 use mathlib.Core.Bool.{false, not}
-use mathlib.Core.Path.{◌≡◌, refl, sym, ◌∙◌, ap}
+use mathlib.Core.Path.{◌≡◌}
 use Rattle.laws.specs.Search.{any_below}
-use Rattle.laws.specs.SearchLaws.{any_none, passed, missed}
 use Rattle.dependence.specs.Ready.{blocks}
 use Rattle.engine.specs.Change.{asked_below, change_for, change_on}
 use Rattle.walk.specs.Origins.{AllPlain}
-use Rattle.engine.specs.FormPass.{StatesIn, refused_at, run_out_at, few_jobs, states_in, counts_out_of_form, committed_out_of_form, running_out_of_form, phase_out_of_form, refused_out_of_form, run_out_of_form, all_seen}
+use Rattle.engine.specs.FormPass.{StatesIn, refused_at, run_out_at}
 use Rattle.engine.proofs.Batch.change_for.Given as goal
 
 -- no job passed is refused

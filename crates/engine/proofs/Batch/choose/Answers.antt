@@ -1,24 +1,22 @@
 -- `Batch::choose` meets its contract: the record's check as `is_in_form` makes it, the columns filled a job a turn, the guesses judged, and each answer the definition's.
 use native.Mathlib.Omega.{arith}
-use Prim.Native.Nat.{ℕ, ◌+◌, ◌<◌, ◌≤◌, ◌-◌}
+use Prim.Native.Nat.{ℕ, ◌+◌, ◌<◌, ◌≤◌}
 use native.Mathlib.Nat.{eq-or-lt_of_le}
 use mathlib.Core.Logic.{⊎_elim}
 use mathlib.Core.Bool.{true, false}
 use mathlib.Core.List.{List}
 use mathlib.Core.Path.{◌≡◌, refl, sym, ap, ◌∙◌}
-use lib.Dec.{eqb}
-use lib.ListN.{length, get_or, set, replicate}
+use lib.ListN.{get_or, set, replicate}
 use lib.Seq.{get_or-set_same, get_or-set_other}
 use borrow.Author.Tests.{eq-eqb, ne_eqb}
-use borrow.Author.Rules.{rules}
 use Rattle.laws.specs.SearchLaws.{any_none, passed, missed}
 use Rattle.cellset.specs.Survey.{judged_rank}
-use Rattle.engine.specs.FormPass.{StatesIn, refused_at, run_out_at, few_jobs, states_in, counts_out_of_form, committed_out_of_form, running_out_of_form, phase_out_of_form, refused_out_of_form, run_out_of_form, all_seen}
+use Rattle.engine.specs.FormPass.{refused_at, few_jobs, states_in, counts_out_of_form, committed_out_of_form, running_out_of_form, phase_out_of_form, refused_out_of_form, run_out_of_form, all_seen}
 use Rattle.engine.specs.InvalidRun.{run_stale}
 use Rattle.engine.specs.Chooser.{named}
 use Rattle.engine.specs.ChooserLaws.{chosen_32, chosen_10}
-use Rattle.engine.specs.ChooserPass.{Columned, columned_none, columned_past, columned_more}
-use Rattle.engine.specs.Ranks.{Ranked, judged_at, survey_ranked, judge_ranked, judged_few, top_limit, choice_none, choice_top, step_of, pick_is}
+use Rattle.engine.specs.ChooserPass.{columned_none, columned_past, columned_more}
+use Rattle.engine.specs.Ranks.{judged_at, survey_ranked, judge_ranked, judged_few, top_limit, choice_none, choice_top, step_of, pick_is}
 use Rattle.engine.proofs.Batch.choose.Goals as goal
 
 -- the ranks of the jobs before the next, where that job's own is small
@@ -40,80 +38,68 @@ returns-then-counts_out r =
     let a = r.args in
     r.refused.ensures ∙ chosen_32 a.self (counts_out_of_form a.self r.counts_out.ensures r.if-counts_out.true)
 
--- ? by hand: no place above Start in t1.before.before.args.t1
 pub top_of-requires : goal.top_of-requires
 top_of-requires c =
-    few_jobs t1.before.before.args.t1 c.counts_out.ensures c.if-counts_out.false
+    few_jobs c.args.self c.counts_out.ensures c.if-counts_out.false
 
 -- a column
--- ? by hand: no place above Start in c.before.before.before.before.before.before.args
 pub returns-then-top_of-gt2 : goal.returns-then-top_of-gt2
 returns-then-top_of-gt2 r =
-    let a = c.before.before.before.before.before.before.args in
-    r.refused-then-top_of-gt2.ensures ∙ chosen_32 a.t1 (committed_out_of_form a.t1 r.top_of.ensures r.if-top_of-gt2.true)
+    let a = r.args in
+    r.refused-then-top_of-gt2.ensures ∙ chosen_32 a.self (committed_out_of_form a.self r.top_of.ensures r.if-top_of-gt2.true)
 
--- ? by hand: no place above Start in t1.before.before.args.t1; no place above Start in t1.before.counts-out.ensures
 pub top_of-requires-2 : goal.top_of-requires-2
 top_of-requires-2 c =
-    few_jobs t1.before.before.args.t1 t1.before.counts-out.ensures c.if-counts_out.false
+    few_jobs c.args.self c.counts_out.ensures c.if-counts_out.false
 
--- ? by hand: no place above Start in t2.before.before.before.before.before.before.args
 pub returns-then-top_of-gt1 : goal.returns-then-top_of-gt1
 returns-then-top_of-gt1 r =
-    let a = t2.before.before.before.before.before.before.args in
-    r.refused-then-top_of-gt1.ensures ∙ chosen_32 a.t1 (running_out_of_form a.t1 r.top_of-2.ensures r.if-top_of-gt1.true)
+    let a = r.args in
+    r.refused-then-top_of-gt1.ensures ∙ chosen_32 a.self (running_out_of_form a.self r.top_of-2.ensures r.if-top_of-gt1.true)
 
--- ? by hand: no place above Start in t2.before.before.before.before
 pub top_of-requires-3 : goal.top_of-requires-3
 top_of-requires-3 c =
-    let t1 = t2.before.before.before.before in
-    few_jobs t1.before.before.args.t1 t1.before.counts_out.ensures t1.if1.false
+    few_jobs c.args.self c.counts_out.ensures c.if-counts_out.false
 
--- ? by hand: no place above Start in t2.before.before.before.before.before.before.args
 pub returns-then-top_of-gt3 : goal.returns-then-top_of-gt3
 returns-then-top_of-gt3 r =
-    let a = t2.before.before.before.before.before.before.args in
-    r.refused-then-top_of-gt3.ensures ∙ chosen_32 a.t1 (phase_out_of_form a.t1 r.top_of-3.ensures r.if-top_of-gt3.true)
+    let a = r.args in
+    r.refused-then-top_of-gt3.ensures ∙ chosen_32 a.self (phase_out_of_form a.self r.top_of-3.ensures r.if-top_of-gt3.true)
 
--- ? by hand: no place above Start in t2.before.before.before.before
 pub loop-i-init : goal.loop-i-init
 loop-i-init c =
-    let t1 = t2.before.before.before.before in
-    let b = t1.before.before.args.t1 in
-    let counts = t1.before.counts_out.ensures in (
+    let b = c.args.self in
+    let counts = c.counts_out.ensures in (
       omega arith,
-      few_jobs b counts t1.if1.false,
+      few_jobs b counts c.if-counts_out.false,
       refl,
-      states_in b counts t1.if1.false c.top_of.ensures c.if-top_of-gt2.false
+      states_in b counts c.if-counts_out.false c.top_of.ensures c.if-top_of-gt2.false
           c.top_of-2.ensures c.if-top_of-gt1.false c.top_of-3.ensures c.if-top_of-gt3.false,
       any_none _,
     )
 
 -- a job
--- ? by hand: no place above Start in l.before.before.before.before.before.before.before.before.before.before.before.before.before.before.before.args
 pub returns-then-is_refused : goal.returns-then-is_refused
 returns-then-is_refused r =
-    let a = l.before.before.before.before.before.before.before.before.before.before.before.before.before.before.before.args in
-    r.refused-then-is_refused.ensures ∙ chosen_32 a.t1 (refused_out_of_form a.t1 r.loop-i.i (rw (← r.loop-i.invariant.2) r.loop-i-test.true) r.is_refused.ensures r.if-is_refused.true)
+    let a = r.args in
+    r.refused-then-is_refused.ensures ∙ chosen_32 a.self (refused_out_of_form a.self r.loop-i.i (rw (← r.loop-i.invariant.2) r.loop-i-test.true) r.is_refused.ensures r.if-is_refused.true)
 
 pub loop-i-preserved : goal.loop-i-preserved
 loop-i-preserved c =
     let l = c.loop-i in
     (omega arith, l.invariant.1, l.invariant.2, l.invariant.3, passed _ _ l.invariant.4 c.is_refused.ensures c.if-is_refused.false)
 
--- ? by hand: no place above Start in c.before.before.before.before.before.before.before.before.before.before.before.before.before.before.before.before.args.t1
 pub loop-k-init : goal.loop-k-init
 loop-k-init c =
-    let b = c.before.before.before.before.before.before.before.before.before.before.before.before.before.before.before.before.args.t1 in
+    let b = c.args.self in
     let l = c.loop-i in
     (omega arith, l.invariant.1, l.invariant.2, l.invariant.3, sym (missed _ _ (refused_at b) l.invariant.0 c.loop-i-test.false l.invariant.4), any_none _)
 
 -- a run
--- ? by hand: no place above Start in l.before.before.before.before.before.before.before.before.before.before.before.before.before.before.before.before.before.args
 pub returns-then-run_out : goal.returns-then-run_out
 returns-then-run_out r =
-    let a = l.before.before.before.before.before.before.before.before.before.before.before.before.before.before.before.before.before.args in
-    r.refused-then-run_out.ensures ∙ chosen_32 a.t1 (run_out_of_form a.t1 r.loop-k.k (rw (← r.loop-k.invariant.2) r.loop-k-test.true) r.run_out.ensures r.if-run_out.true)
+    let a = r.args in
+    r.refused-then-run_out.ensures ∙ chosen_32 a.self (run_out_of_form a.self r.loop-k.k (rw (← r.loop-k.invariant.2) r.loop-k-test.true) r.run_out.ensures r.if-run_out.true)
 
 pub loop-k-preserved : goal.loop-k-preserved
 loop-k-preserved c =
@@ -121,19 +107,17 @@ loop-k-preserved c =
     (omega arith, l.invariant.1, l.invariant.2, l.invariant.3, l.invariant.4, passed _ _ l.invariant.5 c.run_out.ensures c.if-run_out.false)
 
 -- not sealed
--- ? by hand: no place above Start in d.before.before.before.before.before.before.before.before.before.before.before.before.before.before.before.before.before.before.args.t1
 pub returns-then-self-eq0 : goal.returns-then-self-eq0
 returns-then-self-eq0 r =
     let i = r.loop-k.invariant in
-    let b = d.before.before.before.before.before.before.before.before.before.before.before.before.before.before.before.before.before.before.args.t1 in
+    let b = r.args.self in
     r.refused-then-self-eq0.ensures
     ∙ chosen_10 b (all_seen b i.2 i.3 i.4 i.0 r.loop-k-test.false i.5) (eq-eqb _ _ r.if-self-eq0.true)
 
--- ? by hand: no place above Start in d.before.before.before.before.before.before.before.before.before.before.before.before.before.before.before.before.before.before.args.t1
 pub loop-j-init : goal.loop-j-init
 loop-j-init c =
     let i = c.loop-k.invariant in
-    let b = d.before.before.before.before.before.before.before.before.before.before.before.before.before.before.before.before.before.before.args.t1 in (
+    let b = c.args.self in (
       omega arith,
       i.1,
       i.2,
@@ -142,11 +126,10 @@ loop-j-init c =
       columned_none b (replicate 128 0) (replicate 128 0) refl refl,
     )
 
--- ? by hand: no place above Start in at.before.before.before.before.before.before.before.before.before.before.before.before.before.before.before.before.before.before.before.before.args.t1
 pub loop-j-preserved-then-self-j-ne0 : goal.loop-j-preserved-then-self-j-ne0
 loop-j-preserved-then-self-j-ne0 c =
     let l = c.loop-j in
-    let b = at.before.before.before.before.before.before.before.before.before.before.before.before.before.before.before.before.before.before.before.before.args.t1 in (
+    let b = c.args.self in (
       omega arith,
       l.invariant.1,
       l.invariant.2,
@@ -155,11 +138,10 @@ loop-j-preserved-then-self-j-ne0 c =
       columned_past b l.j l.names l.written l.sure l.back l.arities l.invariant.5 (ne_eqb _ _ c.if-self-j-ne0.true),
     )
 
--- ? by hand: no place above Start in at.before.before.before.before.before.before.before.before.before.before.before.before.before.before.before.before.before.before.before.before.args.t1
 pub loop-j-preserved : goal.loop-j-preserved
 loop-j-preserved c =
     let l = c.loop-j in
-    let b = at.before.before.before.before.before.before.before.before.before.before.before.before.before.before.before.before.before.before.before.before.args.t1 in (
+    let b = c.args.self in (
       omega arith,
       l.invariant.1,
       l.invariant.2,
@@ -168,32 +150,27 @@ loop-j-preserved c =
       columned_more b l.j l.names l.written l.sure l.back l.arities l.invariant.5 c.of-cells.result (omega arith) c.of-cells.ensures,
     )
 
-pub survey-requires : goal.survey-requires
-survey-requires c = (c.loop-j.invariant.1, refl)
-
 -- the survey's ranks, of which none is judged yet
--- ? by hand: no place above Start in at.before.before.before.before.before.before.before.before.before.before.before.before.before.before.before.before.before.before.before.before.args.t1
 pub loop-p-init : goal.loop-p-init
 loop-p-init c =
     let l = c.loop-j in
-    let b = at.before.before.before.before.before.before.before.before.before.before.before.before.before.before.before.before.before.before.before.before.args.t1 in
+    let b = c.args.self in
     let e : l.j ≡ b.job_count = omega arith in (
       omega arith,
       l.invariant.1,
       l.invariant.2,
       l.invariant.3,
       l.invariant.4,
-      survey_ranked b l.invariant.3 l.invariant.4 l.names l.written l.sure l.back l.arities (rw e (goal.at.loop-p-init c).Else-self-eq0 l.invariant.5) _ c.survey.ensures,
+      survey_ranked b l.invariant.3 l.invariant.4 l.names l.written l.sure l.back l.arities (rw e at l.invariant.5) _ c.survey.ensures,
       λ i h. absurd (omega arith),
     )
 
 -- a rank that needs no judging
--- ? by hand: no place above Start in at.before.before.before.before.before.before.before.before.before.before.before.before.before.before.before.before.before.before.before.before.before.before.before.before.before.before.before.before.before.before.before.before.args.t1.job_count
 pub loop-p-preserved-then-ranks-p-ne4 : goal.loop-p-preserved-then-ranks-p-ne4
 loop-p-preserved-then-ranks-p-ne4 c =
     let l = c.loop-p in
     let ranked = l.invariant.5 in
-    let within : l.p < at.before.before.before.before.before.before.before.before.before.before.before.before.before.before.before.before.before.before.before.before.before.before.before.before.before.before.before.before.before.before.before.before.args.t1.job_count = rw (← l.invariant.2) c.loop-p-test.true in (
+    let within : l.p < c.args.self.job_count = rw (← l.invariant.2) c.loop-p-test.true in (
       omega arith,
       l.invariant.1,
       l.invariant.2,
@@ -203,19 +180,11 @@ loop-p-preserved-then-ranks-p-ne4 c =
       few_more l.ranks l.p (below_four _ (ranked.few l.p within) c.if-ranks-p-ne4.true) l.invariant.6,
     )
 
--- ? by hand: no place above Start in c.before.before.before.before.before.before.before.before.before.before.before.before.before.before.before.before.before.before.before.before.before.before.before.before.before.before.before.before.before.before.before.before.before.before.before.before.before.before.before
-pub is_stale-stale-requires : goal.is_stale-stale-requires
-is_stale-stale-requires c =
-    let start = c.before.before.before.before.before.before.before.before.before.before.before.before.before.before.before.before.before.before.before.before.before.before.before.before.before.before.before.before.before.before.before.before.before.before.before.before.before.before.before in
-    let long : length start.args.t1.cells ≡ 64 = search (rules, start.well-formed) in
-    long
-
 -- a rank judged
--- ? by hand: no place above Start in at.before.before.before.before.before.before.before.before.before.before.before.before.before.before.before.before.before.before.before.before.before.before.before.before.before.before.before.before.before.before.before.before.args.t1
 pub loop-p-preserved : goal.loop-p-preserved
 loop-p-preserved c =
     let l = c.loop-p in
-    let b = at.before.before.before.before.before.before.before.before.before.before.before.before.before.before.before.before.before.before.before.before.before.before.before.before.before.before.before.before.before.before.before.before.args.t1 in
+    let b = c.args.self in
     let ranked = l.invariant.5 in
     let small : l.p < 128 = omega arith in
     let rank : c.judged_rank-rank.result ≡ judged_at b l.p =
@@ -233,32 +202,21 @@ loop-p-preserved c =
           (λ i h. rw (get_or-set_other l.ranks l.p i c.judged_rank-rank.result 0 (λ q. omega arith)) (l.invariant.6 i h)),
     )
 
-pub top_of-top-requires : goal.top_of-top-requires
-top_of-top-requires c = c.loop-p.invariant.1
-
 -- nothing is allowed
--- ? by hand: no place above Start in at.before.before.before.before.before.before.before.before.before.before.before.before.before.before.before.before.before.before.before.before.before.before.before.before.before.before.before.before.before.before.before.before.args.t1
 pub returns-then-top-eq0 : goal.returns-then-top-eq0
 returns-then-top-eq0 c =
     let l = c.loop-p in
-    let b = at.before.before.before.before.before.before.before.before.before.before.before.before.before.before.before.before.before.before.before.before.before.before.before.before.before.before.before.before.before.before.before.before.args.t1 in
+    let b = c.args.self in
     c.refused-then-top-eq0.ensures
     ∙ choice_none b l.invariant.3 l.invariant.4 l.ranks l.invariant.5 c.top_of-top.result c.top_of-top.ensures
     (rw c.top_of-top.ensures (top_limit _ 3 l.ranks (λ i h. l.invariant.6 i (omega arith)))) c.if-top-eq0.true
 
-pub lowest_of-first-requires : goal.lowest_of-first-requires
-lowest_of-first-requires c = c.loop-p.invariant.1
-
-pub pick_for-pick-requires : goal.pick_for-pick-requires
-pick_for-pick-requires c = c.loop-p.invariant.1
-
 -- the step of the largest rank
--- ? by hand: no place above Start in at.before.before.before.before.before.before.before.before.before.before.before.before.before.before.before.before.before.before.before.before.args.t1; no step step_of at After-step_of (c.before.step_of.ensures)
 pub returns : goal.returns
 returns c =
     let l2 = c.loop-p in
     let l = c.loop-j in
-    let b = at.before.before.before.before.before.before.before.before.before.before.before.before.before.before.before.before.before.before.before.before.args.t1 in
+    let b = c.args.self in
     let form = l2.invariant.3 in
     let closed = l2.invariant.4 in
     let e : l.j ≡ b.job_count = omega (arith, l.invariant.0, c.loop-j-test.false) in
@@ -266,10 +224,10 @@ returns c =
     rw c.top_of-top.ensures (top_limit _ 3 l2.ranks (λ i h. l2.invariant.6 i (omega arith))) in
     let some : 0 < c.top_of-top.result = above_none _ c.if-top-eq0.false in
     c.named.ensures
-    ∙ ap (λ (step : ℕ). named step c.pick_for-pick.result) c.before.step_of.ensures
+    ∙ ap (λ (step : ℕ). named step c.pick_for-pick.result) c.step_of-step.ensures
     ∙ ap (named (step_of c.top_of-top.result))
     (c.pick_for-pick.ensures
-    ∙ pick_is b form closed l.names l.written l.sure l.back l.arities (rw e (goal.at.returns c).Else-self-eq0 l.invariant.5) l2.ranks l2.invariant.5
+    ∙ pick_is b form closed l.names l.written l.sure l.back l.arities (rw e at l.invariant.5) l2.ranks l2.invariant.5
     c.top_of-top.result c.top_of-top.ensures most some c.lowest_of-first.result (omega (arith, c.lowest_of-first.ensures))
     c.chain_lengths_from-chains.result c.chain_lengths_from-chains.ensures)
     ∙ choice_top b form closed l2.ranks l2.invariant.5 c.top_of-top.result c.top_of-top.ensures most some

@@ -1,15 +1,14 @@
 -- `Batch::choose` meets its contract: the record's check as `is_in_form` makes it, the columns filled a job a turn, the guesses judged, and each answer the definition's.
-use Prim.Native.Nat.{ℕ, ◌+◌, ◌<◌, ◌≤◌, ◌-◌}
+use Prim.Native.Nat.{ℕ, ◌<◌, ◌≤◌, ◌-◌}
 use mathlib.Core.Bool.{true, false}
-use mathlib.Core.Path.{◌≡◌, refl, sym, ap, ◌∙◌}
+use mathlib.Core.Path.{◌≡◌}
 use lib.Dec.{eqb}
-use lib.ListN.{length, get_or, set, replicate}
+use lib.ListN.{get_or}
 use Rattle.laws.specs.Search.{any_below}
-use Rattle.laws.specs.SearchLaws.{any_none, passed, missed}
 use Rattle.engine.specs.Form.{in_form}
-use Rattle.engine.specs.FormPass.{StatesIn, refused_at, run_out_at, few_jobs, states_in, counts_out_of_form, committed_out_of_form, running_out_of_form, phase_out_of_form, refused_out_of_form, run_out_of_form, all_seen}
-use Rattle.engine.specs.ChooserPass.{Columned, columned_none, columned_past, columned_more}
-use Rattle.engine.specs.Ranks.{Ranked, judged_at, survey_ranked, judge_ranked, judged_few, top_limit, choice_none, choice_top, step_of, pick_is}
+use Rattle.engine.specs.FormPass.{StatesIn, refused_at, run_out_at}
+use Rattle.engine.specs.ChooserPass.{Columned}
+use Rattle.engine.specs.Ranks.{Ranked}
 use Rattle.engine.proofs.Batch.choose.Given as goal
 
 -- no job passed is refused
@@ -42,7 +41,7 @@ decreases-loop-j l = l.n - l.j
 abbrev pub invariant-loop-p : goal.invariant-loop-p
 invariant-loop-p l =
     (l.p ≤ l.n) × (l.n ≤ 128) × (l.n ≡ l.self.job_count) × (in_form l.self ≡ true) × (eqb l.self.sealed 0 ≡ false) × Ranked l.self l.ranks
-    × ((l.i : ℕ) → l.i < l.p → get_or l.ranks l.i 0 ≤ 3)
+    × ((i : ℕ) → i < l.p → get_or l.ranks i 0 ≤ 3)
 
 abbrev pub decreases-loop-p : goal.decreases-loop-p
 decreases-loop-p l = l.n - l.p

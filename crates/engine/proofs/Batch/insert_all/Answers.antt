@@ -1,35 +1,33 @@
 -- `Batch::insert_all` meets its contract: the record, the jobs, and then the places filled.
 use native.Mathlib.Omega.{arith}
 use borrow.Author.Rules.{rules}
-use borrow.Author.Tests.{not-false}
-use Prim.Native.Nat.{◌≤◌, ◌+◌, ◌-◌}
+use Prim.Native.Nat.{◌-◌}
 use mathlib.Core.Path.{◌≡◌, sym, ◌∙◌}
-use Rattle.laws.specs.SearchLaws.{not_true}
-use Rattle.engine.specs.Record.{blank_run}
 use Rattle.engine.specs.FormLaws.{form_counts}
 use Rattle.engine.specs.Opening.{with_inserted}
-use Rattle.engine.specs.InsertAllPass.{Sized, with_from, fill_none, fill_more, all_out_of_form, all_refused, all_room, all_accepted}
+use Rattle.engine.specs.InsertAllPass.{Sized, fill_none, fill_more, all_out_of_form, all_refused, all_room, all_accepted}
 use Rattle.engine.proofs.Batch.insert_all.Goals as goal
 
 -- the record
 pub returns-then-not-formed : goal.returns-then-not-formed
 returns-then-not-formed c =
     let a = c.args in
-    sym (all_out_of_form a.self a.list.jobs a.list.count (sym c.is_in_form-formed.ensures ∙ not_true _ c.if-not-formed.true-raw))
+    sym (all_out_of_form a.self a.list.jobs a.list.count (sym c.is_in_form-formed.ensures ∙ c.if-not-formed.true))
 
 pub first_refused-refused-requires : goal.first_refused-refused-requires
 first_refused-refused-requires c =
-    let form = sym c.is_in_form-formed.ensures ∙ not-false _ c.if-not-formed.false-raw in
+    let form = sym c.is_in_form-formed.ensures ∙ c.if-not-formed.false in
     (form_counts c.args.self form).few_jobs
 
 -- a job
 pub returns-then-refused-ne0 : goal.returns-then-refused-ne0
 returns-then-refused-ne0 c =
     let a = c.args in
-    let form = sym c.is_in_form-formed.ensures ∙ not-false _ c.if-not-formed.false-raw in
+    let form = sym c.is_in_form-formed.ensures ∙ c.if-not-formed.false in
+    let g = c.well_formed.0.1.1.1.1.1.1.1 in
     let sized : Sized a.self = record {
-      jobs_length = search rules;
-      runs_length = search rules;
+      jobs_length = g.0.1.0.1;
+      runs_length = g.1.0.1.0.1;
       committed_length = search rules;
       running_length = search rules;
       phase_length = search rules;
@@ -40,10 +38,11 @@ returns-then-refused-ne0 c =
 pub loop-k-init : goal.loop-k-init
 loop-k-init c =
     let a = c.args in
-    let form = sym c.is_in_form-formed.ensures ∙ not-false _ c.if-not-formed.false-raw in
+    let form = sym c.is_in_form-formed.ensures ∙ c.if-not-formed.false in
+    let g = c.well_formed.0.1.1.1.1.1.1.1 in
     let sized : Sized a.self = record {
-      jobs_length = search rules;
-      runs_length = search rules;
+      jobs_length = g.0.1.0.1;
+      runs_length = g.1.0.1.0.1;
       committed_length = search rules;
       running_length = search rules;
       phase_length = search rules;

@@ -1,9 +1,9 @@
 -- `Batch::insert_all` meets its contract: the record, the jobs, and then the places filled.
 use Prim.Native.Nat.{◌≤◌, ◌+◌, ◌-◌}
-use mathlib.Core.Path.{◌≡◌, sym, ◌∙◌}
+use mathlib.Core.Path.{◌≡◌}
 use Rattle.engine.specs.Record.{blank_run}
 use Rattle.engine.specs.InsertAll.{inserted_all}
-use Rattle.engine.specs.InsertAllPass.{Sized, with_from, fill_none, fill_more, all_out_of_form, all_refused, all_room, all_accepted}
+use Rattle.engine.specs.InsertAllPass.{with_from}
 use Rattle.engine.proofs.Batch.insert_all.Given as goal
 
 -- the answer is the batch with the jobs left

@@ -1,10 +1,9 @@
 -- `Batch::is_in_form` meets its contract: the counts, the columns, the jobs, the runs.
 use Prim.Native.Nat.{◌≤◌, ◌-◌}
 use mathlib.Core.Bool.{false}
-use mathlib.Core.Path.{◌≡◌, refl, sym, ◌∙◌}
+use mathlib.Core.Path.{◌≡◌}
 use Rattle.laws.specs.Search.{any_below}
-use Rattle.laws.specs.SearchLaws.{any_none, passed, missed}
-use Rattle.engine.specs.FormPass.{StatesIn, refused_at, run_out_at, few_jobs, states_in, counts_out_of_form, committed_out_of_form, running_out_of_form, phase_out_of_form, refused_out_of_form, run_out_of_form, passed_in_form}
+use Rattle.engine.specs.FormPass.{StatesIn, refused_at, run_out_at}
 use Rattle.engine.proofs.Batch.is_in_form.Given as goal
 
 -- no job passed is refused

@@ -1,13 +1,13 @@
 -- `Batch::take_steps` meets its contract: the words of the open jobs, their ranks, and then one move after the other, each by its
 -- law of specs/TurnMoves.antt.
-use Prim.Native.Nat.{ℕ, ◌+◌, ◌*◌, ◌-◌, ◌<◌, ◌≤◌, min}
-use mathlib.Core.Path.{◌≡◌, refl, sym, ap, ◌∙◌, subst}
-use lib.Dec.{eqb, ltb}
-use lib.ListN.{length, length-map, length-set, get_or, drop, replicate}
-use Rattle.laws.specs.Fold.{column, count_below}
-use Rattle.engine.specs.ChooserPass.{Columned, columned_none, columned_past, columned_more}
-use Rattle.engine.specs.TurnChange.{changes_at, changes_from}
-use Rattle.engine.specs.TurnMoves.{Underway, steps_fall, guesses_fall, all_taken, top_few, stopped, lowest_held, judged, picked_is, picked_in, ranks_left, ranks_anew, step_taken}
+use Prim.Native.Nat.{◌+◌, ◌*◌, ◌-◌, ◌≤◌}
+use mathlib.Core.Path.{◌≡◌}
+use lib.Dec.{eqb}
+use lib.ListN.{get_or}
+use Rattle.laws.specs.Fold.{count_below}
+use Rattle.engine.specs.ChooserPass.{Columned}
+use Rattle.engine.specs.TurnChange.{changes_from}
+use Rattle.engine.specs.TurnMoves.{Underway}
 use Rattle.engine.proofs.Batch.take_steps.Given as goal
 
 -- the columns of the jobs before j

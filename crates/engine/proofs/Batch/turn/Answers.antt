@@ -1,15 +1,15 @@
 -- `Batch::turn` meets its contract: the record's check as `is_in_form` makes it, what a turn may begin with, its report, and its steps.
 use native.Mathlib.Omega.{arith}
-use borrow.Author.Tests.{eqb-true, ne_eqb, not-false}
-use Prim.Native.Nat.{ℕ, ◌<◌, ◌≤◌, ◌-◌}
+use borrow.Author.Tests.{eqb-true, ne_eqb}
+use Prim.Native.Nat.{ℕ, ◌<◌}
 use mathlib.Core.Bool.{true, false, not}
 use mathlib.Core.List.{List}
 use mathlib.Core.Path.{◌≡◌, refl, sym, ◌∙◌, ap}
 use lib.Dec.{eqb}
 use lib.ListN.{set, replicate}
-use Rattle.laws.specs.SearchLaws.{if-or, not_true, any_none, passed, missed}
+use Rattle.laws.specs.SearchLaws.{if-or, any_none, passed, missed}
 use Rattle.dependence.specs.Job.{job_at}
-use Rattle.engine.specs.FormPass.{StatesIn, refused_at, run_out_at, few_jobs, states_in, counts_out_of_form, committed_out_of_form, running_out_of_form, phase_out_of_form, refused_out_of_form, run_out_of_form, all_seen}
+use Rattle.engine.specs.FormPass.{refused_at, few_jobs, states_in, counts_out_of_form, committed_out_of_form, running_out_of_form, phase_out_of_form, refused_out_of_form, run_out_of_form, all_seen}
 use Rattle.engine.specs.TurnStart.{turn_out_of_form, turn_other, turn_unsealed, begun_report, turn_absent, report_refused, report_goes, silent_goes}
 use Rattle.engine.specs.declared.Batch.{Batch}
 use Rattle.engine.specs.declared.JobRun.{JobRun}
@@ -61,80 +61,68 @@ returns-then-counts_out r =
     let a = r.args in
     r.refused_turn.ensures ∙ turn_out_of_form a.self a.number a.j a.report a.limit (counts_out_of_form a.self r.counts_out.ensures r.if-counts_out.true)
 
--- ? by hand: no place above Start in t1.before.before.args.t1
 pub top_of-requires : goal.top_of-requires
 top_of-requires c =
-    few_jobs t1.before.before.args.t1 c.counts_out.ensures c.if-counts_out.false
+    few_jobs c.args.self c.counts_out.ensures c.if-counts_out.false
 
 -- a column
--- ? by hand: no place above Start in c.before.before.before.before.before.before.args
 pub returns-then-top_of-gt2 : goal.returns-then-top_of-gt2
 returns-then-top_of-gt2 r =
-    let a = c.before.before.before.before.before.before.args in
-    r.refused_turn-then-top_of-gt2.ensures ∙ turn_out_of_form a.t1 a.number a.j a.report a.limit (committed_out_of_form a.t1 r.top_of.ensures r.if-top_of-gt2.true)
+    let a = r.args in
+    r.refused_turn-then-top_of-gt2.ensures ∙ turn_out_of_form a.self a.number a.j a.report a.limit (committed_out_of_form a.self r.top_of.ensures r.if-top_of-gt2.true)
 
--- ? by hand: no place above Start in t1.before.before.args.t1; no place above Start in t1.before.counts-out.ensures
 pub top_of-requires-2 : goal.top_of-requires-2
 top_of-requires-2 c =
-    few_jobs t1.before.before.args.t1 t1.before.counts-out.ensures c.if-counts_out.false
+    few_jobs c.args.self c.counts_out.ensures c.if-counts_out.false
 
--- ? by hand: no place above Start in t2.before.before.before.before.before.before.args
 pub returns-then-top_of-gt1 : goal.returns-then-top_of-gt1
 returns-then-top_of-gt1 r =
-    let a = t2.before.before.before.before.before.before.args in
-    r.refused_turn-then-top_of-gt1.ensures ∙ turn_out_of_form a.t1 a.number a.j a.report a.limit (running_out_of_form a.t1 r.top_of-2.ensures r.if-top_of-gt1.true)
+    let a = r.args in
+    r.refused_turn-then-top_of-gt1.ensures ∙ turn_out_of_form a.self a.number a.j a.report a.limit (running_out_of_form a.self r.top_of-2.ensures r.if-top_of-gt1.true)
 
--- ? by hand: no place above Start in t2.before.before.before.before
 pub top_of-requires-3 : goal.top_of-requires-3
 top_of-requires-3 c =
-    let t1 = t2.before.before.before.before in
-    few_jobs t1.before.before.args.t1 t1.before.counts_out.ensures t1.if1.false
+    few_jobs c.args.self c.counts_out.ensures c.if-counts_out.false
 
--- ? by hand: no place above Start in t2.before.before.before.before.before.before.args
 pub returns-then-top_of-gt3 : goal.returns-then-top_of-gt3
 returns-then-top_of-gt3 r =
-    let a = t2.before.before.before.before.before.before.args in
-    r.refused_turn-then-top_of-gt3.ensures ∙ turn_out_of_form a.t1 a.number a.j a.report a.limit (phase_out_of_form a.t1 r.top_of-3.ensures r.if-top_of-gt3.true)
+    let a = r.args in
+    r.refused_turn-then-top_of-gt3.ensures ∙ turn_out_of_form a.self a.number a.j a.report a.limit (phase_out_of_form a.self r.top_of-3.ensures r.if-top_of-gt3.true)
 
--- ? by hand: no place above Start in t2.before.before.before.before
 pub loop-i-init : goal.loop-i-init
 loop-i-init c =
-    let t1 = t2.before.before.before.before in
-    let b = t1.before.before.args.t1 in
-    let counts = t1.before.counts_out.ensures in (
+    let b = c.args.self in
+    let counts = c.counts_out.ensures in (
       omega arith,
-      few_jobs b counts t1.if1.false,
+      few_jobs b counts c.if-counts_out.false,
       refl,
-      states_in b counts t1.if1.false c.top_of.ensures c.if-top_of-gt2.false
+      states_in b counts c.if-counts_out.false c.top_of.ensures c.if-top_of-gt2.false
           c.top_of-2.ensures c.if-top_of-gt1.false c.top_of-3.ensures c.if-top_of-gt3.false,
       any_none _,
     )
 
 -- a job
--- ? by hand: no place above Start in l.before.before.before.before.before.before.before.before.before.before.before.before.before.before.before.args
 pub returns-then-is_refused : goal.returns-then-is_refused
 returns-then-is_refused r =
-    let a = l.before.before.before.before.before.before.before.before.before.before.before.before.before.before.before.args in
-    r.refused_turn-then-is_refused.ensures ∙ turn_out_of_form a.t1 a.number a.j a.report a.limit (refused_out_of_form a.t1 r.loop-i.i (rw (← r.loop-i.invariant.2) r.loop-i-test.true) r.is_refused.ensures r.if-is_refused.true)
+    let a = r.args in
+    r.refused_turn-then-is_refused.ensures ∙ turn_out_of_form a.self a.number a.j a.report a.limit (refused_out_of_form a.self r.loop-i.i (rw (← r.loop-i.invariant.2) r.loop-i-test.true) r.is_refused.ensures r.if-is_refused.true)
 
 pub loop-i-preserved : goal.loop-i-preserved
 loop-i-preserved c =
     let l = c.loop-i in
     (omega arith, l.invariant.1, l.invariant.2, l.invariant.3, passed _ _ l.invariant.4 c.is_refused.ensures c.if-is_refused.false)
 
--- ? by hand: no place above Start in c.before.before.before.before.before.before.before.before.before.before.before.before.before.before.before.before.args.t1
 pub loop-k-init : goal.loop-k-init
 loop-k-init c =
-    let b = c.before.before.before.before.before.before.before.before.before.before.before.before.before.before.before.before.args.t1 in
+    let b = c.args.self in
     let l = c.loop-i in
     (omega arith, l.invariant.1, l.invariant.2, l.invariant.3, sym (missed _ _ (refused_at b) l.invariant.0 c.loop-i-test.false l.invariant.4), any_none _)
 
 -- a run
--- ? by hand: no place above Start in l.before.before.before.before.before.before.before.before.before.before.before.before.before.before.before.before.before.args
 pub returns-then-run_out : goal.returns-then-run_out
 returns-then-run_out r =
-    let a = l.before.before.before.before.before.before.before.before.before.before.before.before.before.before.before.before.before.args in
-    r.refused_turn-then-run_out.ensures ∙ turn_out_of_form a.t1 a.number a.j a.report a.limit (run_out_of_form a.t1 r.loop-k.k (rw (← r.loop-k.invariant.2) r.loop-k-test.true) r.run_out.ensures r.if-run_out.true)
+    let a = r.args in
+    r.refused_turn-then-run_out.ensures ∙ turn_out_of_form a.self a.number a.j a.report a.limit (run_out_of_form a.self r.loop-k.k (rw (← r.loop-k.invariant.2) r.loop-k-test.true) r.run_out.ensures r.if-run_out.true)
 
 pub loop-k-preserved : goal.loop-k-preserved
 loop-k-preserved c =
@@ -142,48 +130,44 @@ loop-k-preserved c =
     (omega arith, l.invariant.1, l.invariant.2, l.invariant.3, l.invariant.4, passed _ _ l.invariant.5 c.run_out.ensures c.if-run_out.false)
 
 -- another number
--- ? by hand: no place above Start in d.before.before.before.before.before.before.before.before.before.before.before.before.before.before.before.before.before.before.args
 pub returns-then-not-begins : goal.returns-then-not-begins
 returns-then-not-begins r =
     let i = r.loop-k.invariant in
-    let a = d.before.before.before.before.before.before.before.before.before.before.before.before.before.before.before.before.before.before.args in
-    let form = all_seen a.t1 i.2 i.3 i.4 i.0 r.loop-k-test.false i.5 in
+    let a = r.args in
+    let form = all_seen a.self i.2 i.3 i.4 i.0 r.loop-k-test.false i.5 in
     r.refused_turn-then-not-begins.ensures
-    ∙ turn_other a.t1 a.number a.j a.report a.limit (sym r.begins_turn-begins.ensures ∙ not_true _ r.if-not-begins.true-raw) form
+    ∙ turn_other a.self a.number a.j a.report a.limit (sym r.begins_turn-begins.ensures ∙ r.if-not-begins.true) form
 
 -- not sealed
--- ? by hand: no place above Start in d.before.before.before.before.before.before.before.before.before.before.before.before.before.before.before.before.before.before.args
 pub returns-then-self-eq0 : goal.returns-then-self-eq0
 returns-then-self-eq0 r =
     let i = r.loop-k.invariant in
-    let a = d.before.before.before.before.before.before.before.before.before.before.before.before.before.before.before.before.before.before.args in
-    let form = all_seen a.t1 i.2 i.3 i.4 i.0 r.loop-k-test.false i.5 in
+    let a = r.args in
+    let form = all_seen a.self i.2 i.3 i.4 i.0 r.loop-k-test.false i.5 in
     r.refused_turn-then-self-eq0.ensures
-    ∙ turn_unsealed a.t1 a.number a.j a.report a.limit (sym r.begins_turn-begins.ensures ∙ not-false _ r.if-not-begins.false-raw) form r.if-self-eq0.true
+    ∙ turn_unsealed a.self a.number a.j a.report a.limit (sym r.begins_turn-begins.ensures ∙ r.if-not-begins.false) form r.if-self-eq0.true
 
 -- no such job
--- ? by hand: no place above Start in d.before.before.before.before.before.before.before.before.before.before.before.before.before.before.before.before.before.before.args
 pub returns-then-n-j : goal.returns-then-n-j
 returns-then-n-j r =
     let i = r.loop-k.invariant in
-    let a = d.before.before.before.before.before.before.before.before.before.before.before.before.before.before.before.before.before.before.args in
-    let form = all_seen a.t1 i.2 i.3 i.4 i.0 r.loop-k-test.false i.5 in
-    let begun = sym r.begins_turn-begins.ensures ∙ not-false _ r.if-not-begins.false-raw in
-    let told = begun_report a.t1 a.number a.j a.report a.limit begun r.if-number-ne-NO_REPORT.true in
+    let a = r.args in
+    let form = all_seen a.self i.2 i.3 i.4 i.0 r.loop-k-test.false i.5 in
+    let begun = sym r.begins_turn-begins.ensures ∙ r.if-not-begins.false in
+    let told = begun_report a.self a.number a.j a.report a.limit begun r.if-number-ne-NO_REPORT.true in
     r.refused_turn-then-n-j.ensures
-    ∙ turn_absent a.t1 a.number a.j a.report a.limit told form (ne_eqb _ _ r.if-self-eq0.false) (rw (← i.2) r.if-n-j.true)
+    ∙ turn_absent a.self a.number a.j a.report a.limit told form (ne_eqb _ _ r.if-self-eq0.false) (rw (← i.2) r.if-n-j.true)
 
 -- the report is refused
--- ? by hand: no place above Start in d.before.before.before.before.before.before.before.before.before.before.before.before.before.before.before.before.before.before.args
 pub returns-then-change-ne0 : goal.returns-then-change-ne0
 returns-then-change-ne0 r =
     let i = r.loop-k.invariant in
-    let a = d.before.before.before.before.before.before.before.before.before.before.before.before.before.before.before.before.before.before.args in
-    let form = all_seen a.t1 i.2 i.3 i.4 i.0 r.loop-k-test.false i.5 in
-    let begun = sym r.begins_turn-begins.ensures ∙ not-false _ r.if-not-begins.false-raw in
-    let told = begun_report a.t1 a.number a.j a.report a.limit begun r.if-number-ne-NO_REPORT.true in
-    let made = report_made a.t1 a.number a.j a.report told form (ne_eqb _ _ r.if-self-eq0.false) (rw (← i.2) r.if-n-j.false) r.plain_change-change.ensures in
-    r.refused_turn-then-change-ne0.ensures ∙ report_refused a.t1 a.number a.j a.report a.limit told made r.if-change-ne0.true
+    let a = r.args in
+    let form = all_seen a.self i.2 i.3 i.4 i.0 r.loop-k-test.false i.5 in
+    let begun = sym r.begins_turn-begins.ensures ∙ r.if-not-begins.false in
+    let told = begun_report a.self a.number a.j a.report a.limit begun r.if-number-ne-NO_REPORT.true in
+    let made = report_made a.self a.number a.j a.report told form (ne_eqb _ _ r.if-self-eq0.false) (rw (← i.2) r.if-n-j.false) r.plain_change-change.ensures in
+    r.refused_turn-then-change-ne0.ensures ∙ report_refused a.self a.number a.j a.report a.limit told made r.if-change-ne0.true
 
 pub offset_bounds-self-j-then-number-ne-NO_REPORT-2 : goal.offset_bounds-self-j-then-number-ne-NO_REPORT-2
 offset_bounds-self-j-then-number-ne-NO_REPORT-2 c =
@@ -210,42 +194,40 @@ overflow_cast-noted c =
     omega (arith, c.if-n-j.false, c.loop-k.invariant.1)
 
 -- what a report leaves is in form, and sealed as before
--- ? by hand: no place above Start in d.before.before.before.before.before.before.before.before.before.before.before.before.before.before.before.before.before.before.args
 pub take_steps-requires : goal.take_steps-requires
 unfolding with_job_changed
 take_steps-requires c =
     let i = c.loop-k.invariant in
-    let a = d.before.before.before.before.before.before.before.before.before.before.before.before.before.before.before.before.before.before.args in
-    let form = all_seen a.t1 i.2 i.3 i.4 i.0 c.loop-k-test.false i.5 in
+    let a = c.args in
+    let form = all_seen a.self i.2 i.3 i.4 i.0 c.loop-k-test.false i.5 in
     let closed = ne_eqb _ _ c.if-self-eq0.false in
-    let begun = sym c.begins_turn-begins.ensures ∙ not-false _ c.if-not-begins.false-raw in
+    let begun = sym c.begins_turn-begins.ensures ∙ c.if-not-begins.false in
     (elim c.if-number-ne-NO_REPORT.branch [
-      then-number-ne-NO_REPORT+else-n-j+else-change-ne0 w ↦ let told = begun_report a.t1 a.number a.j a.report a.limit begun w.if-number-ne-NO_REPORT.true in
-    let made = report_made a.t1 a.number a.j a.report told form closed (rw (← i.2) w.if-n-j.false) w.plain_change-change.ensures in
-    let formed = left_in_form a.t1 a.number a.j a.report made w.if-change-ne0.false in
+      then-number-ne-NO_REPORT+else-n-j+else-change-ne0 w ↦ let told = begun_report a.self a.number a.j a.report a.limit begun w.if-number-ne-NO_REPORT.true in
+    let made = report_made a.self a.number a.j a.report told form closed (rw (← i.2) w.if-n-j.false) w.plain_change-change.ensures in
+    let formed = left_in_form a.self a.number a.j a.report made w.if-change-ne0.false in
     (ap in_form w.self-is ∙ formed, ap (λ (b : Batch). eqb b.sealed 0) w.self-is ∙ closed, omega (arith, w.first-is), omega (arith, c.at_most-most.ensures))
       | else-number-ne-NO_REPORT w ↦ (ap in_form w.self-is ∙ form, ap (λ (b : Batch). eqb b.sealed 0) w.self-is ∙ closed, omega (arith, w.first-is), omega (arith, c.at_most-most.ensures))
     ])
 
 -- the steps, after the report or without one
--- ? by hand: no place above Start in d.before.before.before.before.before.before.before.before.before.before.before.before.before.before.before.before.before.before.args
 pub returns : goal.returns
 unfolding with_job_changed
 returns c =
     let i = c.loop-k.invariant in
-    let a = d.before.before.before.before.before.before.before.before.before.before.before.before.before.before.before.before.before.before.args in
-    let form = all_seen a.t1 i.2 i.3 i.4 i.0 c.loop-k-test.false i.5 in
+    let a = c.args in
+    let form = all_seen a.self i.2 i.3 i.4 i.0 c.loop-k-test.false i.5 in
     let closed = ne_eqb _ _ c.if-self-eq0.false in
-    let begun = sym c.begins_turn-begins.ensures ∙ not-false _ c.if-not-begins.false-raw in
+    let begun = sym c.begins_turn-begins.ensures ∙ c.if-not-begins.false in
     let most = c.at_most-most.ensures in
     let none = c.no_job_run-none.ensures in
     c.take_steps.ensures
     ∙ (elim c.if-number-ne-NO_REPORT.branch [
-      then-number-ne-NO_REPORT+else-n-j+else-change-ne0 w ↦ let told = begun_report a.t1 a.number a.j a.report a.limit begun w.if-number-ne-NO_REPORT.true in
-    let made = report_made a.t1 a.number a.j a.report told form closed (rw (← i.2) w.if-n-j.false) w.plain_change-change.ensures in
+      then-number-ne-NO_REPORT+else-n-j+else-change-ne0 w ↦ let told = begun_report a.self a.number a.j a.report a.limit begun w.if-number-ne-NO_REPORT.true in
+    let made = report_made a.self a.number a.j a.report told form closed (rw (← i.2) w.if-n-j.false) w.plain_change-change.ensures in
     let one : JobRun = record { job = a.j; run = w.plain_change-change.result.run } in
     same_from w.self-is (w.noted-is ∙ ap (λ (blank : JobRun). set (replicate 17 blank) 0 one) none) w.first-is most
-    ∙ report_goes a.t1 a.number a.j a.report a.limit told made w.if-change-ne0.false
+    ∙ report_goes a.self a.number a.j a.report a.limit told made w.if-change-ne0.false
       | else-number-ne-NO_REPORT w ↦ same_from w.self-is (w.noted-is ∙ ap (replicate 17) none) w.first-is most
-    ∙ silent_goes a.t1 a.number a.j a.report a.limit w.if-number-ne-NO_REPORT.false form closed
+    ∙ silent_goes a.self a.number a.j a.report a.limit w.if-number-ne-NO_REPORT.false form closed
     ])

@@ -1,10 +1,9 @@
 -- `Batch::turn` meets its contract: the record's check as `is_in_form` makes it, what a turn may begin with, its report, and its steps.
-use Prim.Native.Nat.{ℕ, ◌<◌, ◌≤◌, ◌-◌}
-use mathlib.Core.Bool.{true, false, not}
-use mathlib.Core.Path.{◌≡◌, refl, sym, ◌∙◌, ap}
+use Prim.Native.Nat.{◌≤◌, ◌-◌}
+use mathlib.Core.Bool.{false}
+use mathlib.Core.Path.{◌≡◌}
 use Rattle.laws.specs.Search.{any_below}
-use Rattle.laws.specs.SearchLaws.{if-or, not_true, any_none, passed, missed}
-use Rattle.engine.specs.FormPass.{StatesIn, refused_at, run_out_at, few_jobs, states_in, counts_out_of_form, committed_out_of_form, running_out_of_form, phase_out_of_form, refused_out_of_form, run_out_of_form, all_seen}
+use Rattle.engine.specs.FormPass.{StatesIn, refused_at, run_out_at}
 use Rattle.engine.proofs.Batch.turn.Given as goal
 
 -- no job passed is refused
