@@ -1,13 +1,12 @@
 -- The change of a step is the step: on a job held of a sealed batch in form each of the five makes it, and what is refused before
 -- is refused by each.
-use Rattle.std.specs.Prelude.{ℕ, zero, suc, ◌+◌, ◌<◌, ◌≤◌, Bool, true, false, cond, not, ◌&&◌, ◌||◌, [], ◌≡◌, eqb, ltb, ℤ, pos, replicate}
+use Rattle.std.specs.Prelude.{ℕ, zero, suc, ◌+◌, ◌<◌, ◌≤◌, Bool, true, false, cond, not, ◌&&◌, ◌||◌, [], ◌≡◌, eqb, ltb, pos, replicate}
 use Rattle.std.proofs.Common.{arith, add-one, ◌∙◌}
 use Rattle.std.proofs.Math.Path.{refl, sym, ap}
 use borrow.Author.Tests.{eqb-true, eq-eqb, ltb-true, ltb-false, lt-ltb, le-ltb, le-leb, lt-leb, ne_eqb}
 use Rattle.laws.specs.Refusal.{first_of}
 use Rattle.laws.specs.Search.{any_below}
 use Rattle.laws.specs.SearchLaws.{if-or, clash}
-use Rattle.dependence.specs.declared.Job.{Job}
 use Rattle.dependence.specs.Job.{job_at}
 use Rattle.dependence.specs.Ready.{blocks, ready}
 use Rattle.rules.specs.Speculation.{source_missing}
@@ -15,7 +14,6 @@ use Rattle.rules.specs.Refusals.{step_tests}
 use Rattle.rules.specs.SpeculationLaws.{judged_else}
 use Rattle.walk.specs.Origins.{AllPlain}
 use Rattle.engine.specs.declared.Batch.{Batch}
-use Rattle.engine.specs.declared.Answer.{Answer}
 use Rattle.engine.specs.declared.Started.{Started}
 use Rattle.engine.specs.declared.Report.{Report}
 use Rattle.engine.specs.declared.change.Change.{Change}

@@ -18,7 +18,6 @@ use Rattle.rules.specs.Call.{Call, start_own, start_speculation, commit}
 use Rattle.cellset.specs.Survey.{Columns, columns, cells_at, is_open, earlier_than, is_ready_after, misses_source, may_speculate, judged_rank, final_rank, rank_at, Surveyed}
 use Rattle.cellset.specs.AllowedLaws.{first_rank, allowed_rank, none_settled, told_rank}
 use Rattle.engine.specs.declared.Batch.{Batch}
-use Rattle.engine.specs.declared.Choice.{Choice}
 use Rattle.engine.specs.declared.chooser.Pick.{Pick}
 use Rattle.engine.specs.Record.{snapshot_of}
 use Rattle.engine.specs.Form.{in_form}

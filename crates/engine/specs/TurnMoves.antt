@@ -1,6 +1,6 @@
 -- The moves of a turn's loop: a guess is judged, a step is taken, or the turn ends. What holds before each holds after it.
 use Rattle.std.specs.Prelude.{ℕ, zero, suc, ◌+◌, ◌*◌, ◌-◌, ◌<◌, ◌≤◌, Bool, true, false, cond, not, ◌&&◌, ◌||◌, List, ◌≡◌, eqb, ltb, length, get_or, set, drop}
-use Rattle.std.proofs.Common.{arith, add-one, sym, ap, ◌∙◌, subst, length-set, eqb-true, eq-eqb, ne_eqb, ltb-true, ltb-false, get_or-set_same, get_or-set_other}
+use Rattle.std.proofs.Common.{arith, sym, ap, ◌∙◌, subst, length-set, eqb-true, ne_eqb, ltb-true, ltb-false, get_or-set_same, get_or-set_other}
 use Rattle.std.proofs.Math.Path.{refl}
 use Rattle.std.proofs.lemmas.Bool.{eqb-false}
 use Rattle.laws.specs.Fold.{column, count_below}
@@ -8,7 +8,6 @@ use Rattle.laws.specs.FoldLaws.{count_same}
 use Rattle.laws.specs.SearchLaws.{if-or, clash}
 use Rattle.dependence.specs.Job.{job_at}
 use Rattle.passes.specs.Chain.{chain_length_at}
-use Rattle.rules.specs.Snapshot.{is_stored}
 use Rattle.cellset.specs.Survey.{columns, Surveyed}
 use Rattle.engine.specs.declared.Batch.{Batch}
 use Rattle.engine.specs.declared.Choice.{Choice}
@@ -24,11 +23,11 @@ use Rattle.engine.specs.FormLaws.{form_counts}
 use Rattle.engine.specs.FormPass.{top_below}
 use Rattle.engine.specs.Steps.{with_job_changed}
 use Rattle.engine.specs.Change.{speculation_start, standing_at, guess_at, plain_change, change_for, change_on, with_change}
-use Rattle.engine.specs.ChangeLaws.{step_is_change, change_made}
+use Rattle.engine.specs.ChangeLaws.{step_is_change}
 use Rattle.engine.specs.InsertAllPass.{Sized}
 use Rattle.engine.specs.Chooser.{pick_below, named, chosen}
 use Rattle.engine.specs.ChooserPass.{Columned, open_at, columned_later}
-use Rattle.engine.specs.Ranks.{judged_at, Ranked, survey_ranked, judge_ranked, step_of, top_reaches, top_met, top_limit, rank_is, choice_none, choice_top, lowest_below, highest_below, lowest_le, lowest_met, pick_is, best, best_in, lowest_in, sole_is}
+use Rattle.engine.specs.Ranks.{judged_at, Ranked, survey_ranked, judge_ranked, step_of, top_reaches, top_met, top_limit, rank_is, choice_none, choice_top, lowest_below, highest_below, lowest_le, lowest_met, pick_is, best, best_in, sole_is}
 use Rattle.engine.specs.Turn.{blank_report, next_step, next_taken}
 use Rattle.engine.specs.TurnChange.{next_change, next_run, changes_at, changes_from}
 use Rattle.cellset.specs.AllowedLaws.{allowed_rank}

@@ -14,13 +14,12 @@ use Rattle.laws.specs.SearchLaws.{any_same, if-or, or_true, or_left, or_right}
 use Rattle.dependence.specs.declared.Job.{Job}
 use Rattle.dependence.specs.Job.{access_at, job_at}
 use Rattle.dependence.specs.Ready.{is_committed, ready}
-use Rattle.rules.specs.Walk.{writes, source_below, looks_back}
+use Rattle.rules.specs.Walk.{source_below, looks_back}
 use Rattle.rules.specs.Snapshot.{never_started, is_stored, is_live}
 use Rattle.rules.specs.Speculation.{waits, is_ready, is_valid, is_invalid, unusable, source_now, source_missing}
 use Rattle.rules.specs.Call.{start_own, start_speculation, commit}
 use Rattle.rules.specs.Refusals.{refusal_of}
-use Rattle.cellset.specs.Survey.{final_rank}
-use Rattle.cellset.specs.AllowedLaws.{first_rank, allowed_rank}
+use Rattle.cellset.specs.AllowedLaws.{allowed_rank}
 use Rattle.engine.specs.declared.Batch.{Batch}
 use Rattle.engine.specs.declared.Report.{Report}
 use Rattle.engine.specs.declared.change.Standing.{Standing}
@@ -32,7 +31,7 @@ use Rattle.engine.specs.Speculation.{invalid_run}
 use Rattle.engine.specs.Change.{speculation_start, standing_at, guess_at, plain_change, change_for, with_change}
 use Rattle.engine.specs.InsertAllPass.{Sized}
 use Rattle.engine.specs.ChooserPass.{open_at}
-use Rattle.engine.specs.Ranks.{judged_at, Ranked}
+use Rattle.engine.specs.Ranks.{Ranked}
 
 -- c is b but for the run of job p, whether its own run is out, and its guess; no stored guess of it came or went.
 pub record Apart (p : ℕ) (b c : Batch) : Type 0 where

@@ -1,9 +1,9 @@
 -- How a turn begins, as the code comes to it: refused, with its report made, or without one.
-use Rattle.std.specs.Prelude.{ℕ, ◌≤◌, min, Bool, false, cond, ◌||◌, ◌≡◌, eqb, set}
-use Rattle.std.proofs.Common.{arith, sym, ap, ◌∙◌}
+use Rattle.std.specs.Prelude.{ℕ, ◌≤◌, min, false, cond, ◌||◌, ◌≡◌, eqb, set}
+use Rattle.std.proofs.Common.{arith}
 use Rattle.std.proofs.Math.Bool.{true}
 use Rattle.std.proofs.Math.Path.{refl}
-use borrow.Author.Tests.{eqb-true, eq-eqb, ne_eqb}
+use borrow.Author.Tests.{eqb-true, ne_eqb}
 use Rattle.laws.specs.SearchLaws.{if-or, or_left, or_right}
 use Rattle.engine.specs.declared.Batch.{Batch}
 use Rattle.engine.specs.declared.Report.{Report}

@@ -1,8 +1,6 @@
 -- `Batch::any_uncommitted` meets its contract: a search over the jobs held.
 use native.Mathlib.Omega.{arith}
-use Prim.Native.Nat.{◌≤◌, ◌-◌}
-use mathlib.Core.Bool.{false}
-use mathlib.Core.Path.{◌≡◌, refl, sym}
+use mathlib.Core.Path.{refl, sym}
 use borrow.Author.Tests.{eq-eqb, ne_eqb}
 use Rattle.laws.specs.SearchLaws.{any_none, any_found, any_more, missed}
 use Rattle.engine.specs.Ask.{uncommitted_at}

@@ -1,7 +1,7 @@
 -- `Batch::any_uncommitted` meets its contract: a search over the jobs held.
 use Prim.Native.Nat.{◌≤◌, ◌-◌}
 use mathlib.Core.Bool.{false}
-use mathlib.Core.Path.{◌≡◌, refl, sym}
+use mathlib.Core.Path.{◌≡◌}
 use Rattle.laws.specs.Search.{any_below}
 use Rattle.engine.specs.Ask.{uncommitted_at}
 use Rattle.engine.proofs.Batch.any_uncommitted.Given as goal

@@ -1,6 +1,5 @@
 -- `Batch::is_in_form` meets its contract: the counts, the columns, the jobs, the runs.
 use native.Mathlib.Omega.{arith}
-use mathlib.Core.Bool.{false}
 use mathlib.Core.Path.{refl, sym}
 use Rattle.laws.specs.SearchLaws.{any_none, passed, missed}
 use Rattle.engine.specs.FormPass.{refused_at, run_out_at, few_jobs, states_in, counts_out_of_form, committed_out_of_form, running_out_of_form, phase_out_of_form, refused_out_of_form, run_out_of_form, passed_in_form}

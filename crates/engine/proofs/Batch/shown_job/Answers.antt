@@ -19,7 +19,7 @@ returns c =
     let found : c.if-committed-eq0.validity ≡ validity (snapshot_of a.self) a.j =
     rw (← validity_is a.self a.j)
     (elim c.if-committed-eq0.branch [
-      then-committed-eq0+then-is_live w ↦ w.validity-is ∙ w.live_validity-validity.ensures ∙ rw (← w.is_live.ensures, w.if-is_live.true, w.if-committed-eq0.true)
+      | then-committed-eq0+then-is_live w ↦ w.validity-is ∙ w.live_validity-validity.ensures ∙ rw (← w.is_live.ensures, w.if-is_live.true, w.if-committed-eq0.true)
       | then-committed-eq0+else-is_live w ↦ w.validity-is ∙ rw (← w.is_live.ensures, w.if-is_live.false)
       | else-committed-eq0 w ↦ w.validity-is ∙ rw (ne_eqb _ _ w.if-committed-eq0.false, and_false (is_live (get_or a.self.phase a.j 0)))
     ]) in

@@ -45,7 +45,7 @@ chains_known c =
     let from = c.needed_from-from in
     let g = c.loop-count.invariant.4 in
     elim c.if-from-known.branch [
-      then-from-known w ↦ (
+      | then-from-known w ↦ (
         λ several. rw w.known-is (omega (arith, rw (lt-ltb _ _ several) at from.ensures)),
         rw (w.chains-is, w.known-is) w.chain_lengths_from-lengths.ensures,
       )
@@ -79,7 +79,7 @@ plain_here : (c : Joined-top-eq1) → (c.top_of-top.result ≡ 1 → ⊥)
     c.loop-count.self.cells blank_report true
 plain_here c other =
     elim c.if-top-eq1.branch [
-      then-top-eq1 w ↦ absurd (other w.if-top-eq1.true)
+      | then-top-eq1 w ↦ absurd (other w.if-top-eq1.true)
       | else-top-eq1 w ↦ w.change-is ∙ rw c.step_of-number.ensures at c.plain_change-change.ensures
     ]
 
@@ -92,12 +92,12 @@ guess_here c one =
     let p = c.picked-pick.result in
     let switch = c.loop-count.invariant.4.switch in
     elim c.if-top-eq1.branch [
-      then-top-eq1 w ↦
-        let guessed = w.guess_from-guess.ensures ∙ guess_is b p w.of-origins.result w.of-origins.ensures w.place_of-first.ensures.0 w.place_of-second.ensures.0 w.place_of-third.ensures.0 w.place_of-fourth.ensures.0 in
-        w.change-is
-        ∙ w.speculation_start-started.ensures
-        ∙ ap (λ (run : Run). speculation_start (not (eqb c.args.self.speculating 0)) (standing_at b p) b.cells false false run) guessed
-        ∙ ap (λ (on : Bool). speculation_start on (standing_at b p) b.cells false false (guess_at b p)) switch
+      | then-top-eq1 w ↦
+          let guessed = w.guess_from-guess.ensures ∙ guess_is b p w.of-origins.result w.of-origins.ensures w.place_of-first.ensures.0 w.place_of-second.ensures.0 w.place_of-third.ensures.0 w.place_of-fourth.ensures.0 in
+          w.change-is
+          ∙ w.speculation_start-started.ensures
+          ∙ ap (λ (run : Run). speculation_start (not (eqb c.args.self.speculating 0)) (standing_at b p) b.cells false false run) guessed
+          ∙ ap (λ (on : Bool). speculation_start on (standing_at b p) b.cells false false (guess_at b p)) switch
       | else-top-eq1 w ↦ absurd (w.if-top-eq1.false one)
     ]
 
@@ -283,8 +283,8 @@ loop-count-preserved-then-touches_others c =
     let right = (chains_known d.Joined-from-known).1 in
     let below = c.loop-count-test.true in
     let ranked =
-        ranks_anew g t.result t.ensures in_range.0 in_range.1 picked.0 change (plain_here d.Joined-top-eq1) (guess_here d.Joined-top-eq1)
-        c.survey-then-touches_others.ensures in
+    ranks_anew g t.result t.ensures in_range.0 in_range.1 picked.0 change (plain_here d.Joined-top-eq1) (guess_here d.Joined-top-eq1)
+    c.survey-then-touches_others.ensures in
     let after = step_taken g t.result t.ensures in_range.0 in_range.1 picked.0 change (plain_here d.Joined-top-eq1) (guess_here d.Joined-top-eq1) below right ranked in
     (omega (arith, below), l.invariant.1, omega (arith, l.invariant.2), l.invariant.3, rw c.step_of-number.ensures after)
 
@@ -305,8 +305,8 @@ loop-count-preserved c =
     let right = (chains_known d.Joined-from-known).1 in
     let below = c.loop-count-test.true in
     let ranked =
-        ranks_left g t.result t.ensures in_range.0 in_range.1 picked.0 change (plain_here d.Joined-top-eq1) (guess_here d.Joined-top-eq1) picked.1
-        (sym c.touches_others.ensures ∙ c.if-touches_others.false) in
+    ranks_left g t.result t.ensures in_range.0 in_range.1 picked.0 change (plain_here d.Joined-top-eq1) (guess_here d.Joined-top-eq1) picked.1
+    (sym c.touches_others.ensures ∙ c.if-touches_others.false) in
     let after = step_taken g t.result t.ensures in_range.0 in_range.1 picked.0 change (plain_here d.Joined-top-eq1) (guess_here d.Joined-top-eq1) below right ranked in
     (omega (arith, below), l.invariant.1, omega (arith, l.invariant.2), l.invariant.3, rw c.step_of-number.ensures after)
 
@@ -318,7 +318,7 @@ returns c =
     let a = c.args in
     let done : changes_at l.self l.taken l.changed l.count l.stored ≡ changes_from a.self (replicate 16 c.no_step-none.result) a.noted 0 a.start a.most =
     elim c.loop-count-test.branch [
-      else-loop-count-test w ↦ sym (g.left ∙ all_taken l.self l.taken l.changed l.count l.stored a.most w.loop-count-test.false)
+      | else-loop-count-test w ↦ sym (g.left ∙ all_taken l.self l.taken l.changed l.count l.stored a.most w.loop-count-test.false)
       | then-loop-count-test+then-top-eq0 w ↦ sym (stopped g w.top_of-top.result w.top_of-top.ensures w.if-top-eq0.true)
     ] in
     rw c.no_step-none.ensures at done

@@ -203,10 +203,10 @@ take_steps-requires c =
     let closed = ne_eqb _ _ c.if-self-eq0.false in
     let begun = sym c.begins_turn-begins.ensures ∙ c.if-not-begins.false in
     (elim c.if-number-ne-NO_REPORT.branch [
-      then-number-ne-NO_REPORT+else-n-j+else-change-ne0 w ↦ let told = begun_report a.self a.number a.j a.report a.limit begun w.if-number-ne-NO_REPORT.true in
-    let made = report_made a.self a.number a.j a.report told form closed (rw (← i.2) w.if-n-j.false) w.plain_change-change.ensures in
-    let formed = left_in_form a.self a.number a.j a.report made w.if-change-ne0.false in
-    (ap in_form w.self-is ∙ formed, ap (λ (b : Batch). eqb b.sealed 0) w.self-is ∙ closed, omega (arith, w.first-is), omega (arith, c.at_most-most.ensures))
+      | then-number-ne-NO_REPORT+else-n-j+else-change-ne0 w ↦ let told = begun_report a.self a.number a.j a.report a.limit begun w.if-number-ne-NO_REPORT.true in
+          let made = report_made a.self a.number a.j a.report told form closed (rw (← i.2) w.if-n-j.false) w.plain_change-change.ensures in
+          let formed = left_in_form a.self a.number a.j a.report made w.if-change-ne0.false in
+          (ap in_form w.self-is ∙ formed, ap (λ (b : Batch). eqb b.sealed 0) w.self-is ∙ closed, omega (arith, w.first-is), omega (arith, c.at_most-most.ensures))
       | else-number-ne-NO_REPORT w ↦ (ap in_form w.self-is ∙ form, ap (λ (b : Batch). eqb b.sealed 0) w.self-is ∙ closed, omega (arith, w.first-is), omega (arith, c.at_most-most.ensures))
     ])
 
@@ -223,11 +223,11 @@ returns c =
     let none = c.no_job_run-none.ensures in
     c.take_steps.ensures
     ∙ (elim c.if-number-ne-NO_REPORT.branch [
-      then-number-ne-NO_REPORT+else-n-j+else-change-ne0 w ↦ let told = begun_report a.self a.number a.j a.report a.limit begun w.if-number-ne-NO_REPORT.true in
-    let made = report_made a.self a.number a.j a.report told form closed (rw (← i.2) w.if-n-j.false) w.plain_change-change.ensures in
-    let one : JobRun = record { job = a.j; run = w.plain_change-change.result.run } in
-    same_from w.self-is (w.noted-is ∙ ap (λ (blank : JobRun). set (replicate 17 blank) 0 one) none) w.first-is most
-    ∙ report_goes a.self a.number a.j a.report a.limit told made w.if-change-ne0.false
+      | then-number-ne-NO_REPORT+else-n-j+else-change-ne0 w ↦ let told = begun_report a.self a.number a.j a.report a.limit begun w.if-number-ne-NO_REPORT.true in
+          let made = report_made a.self a.number a.j a.report told form closed (rw (← i.2) w.if-n-j.false) w.plain_change-change.ensures in
+          let one : JobRun = record { job = a.j; run = w.plain_change-change.result.run } in
+          same_from w.self-is (w.noted-is ∙ ap (λ (blank : JobRun). set (replicate 17 blank) 0 one) none) w.first-is most
+          ∙ report_goes a.self a.number a.j a.report a.limit told made w.if-change-ne0.false
       | else-number-ne-NO_REPORT w ↦ same_from w.self-is (w.noted-is ∙ ap (replicate 17) none) w.first-is most
-    ∙ silent_goes a.self a.number a.j a.report a.limit w.if-number-ne-NO_REPORT.false form closed
+          ∙ silent_goes a.self a.number a.j a.report a.limit w.if-number-ne-NO_REPORT.false form closed
     ])

@@ -1,9 +1,8 @@
 -- `put` meets its contract: the cells below x are copied.
 use native.Mathlib.Omega.{arith}
-use Prim.Native.Nat.{◌≤◌, ◌-◌}
 use mathlib.Core.Path.{◌≡◌, refl}
 use lib.IntN.{pos}
-use lib.ListN.{length, take, drop, length-set}
+use lib.ListN.{length, length-set}
 use mir.Facts.{to_z-of_z}
 use mir.Syntax.{w32}
 use borrow.Author.Rules.{rules, sfits_of}

@@ -1,8 +1,8 @@
 -- `put` meets its contract: the cells below x are copied.
 use Prim.Native.Nat.{◌≤◌, ◌-◌}
 use mathlib.Core.List.{◌++◌}
-use mathlib.Core.Path.{◌≡◌, refl}
-use lib.ListN.{length, take, drop, length-set}
+use mathlib.Core.Path.{◌≡◌}
+use lib.ListN.{length, take, drop}
 use Rattle.engine.proofs.ask.put.Given as goal
 
 -- the first x places hold cells, and the others are as they were

@@ -1,8 +1,7 @@
 -- `highest_of` meets its contract: the loop keeps the highest of the places passed.
 use native.Mathlib.Omega.{arith}
-use Prim.Native.Nat.{◌≤◌, ◌-◌}
 use mathlib.Core.Path.{◌≡◌, sym, ◌∙◌}
-use Rattle.engine.specs.Ranks.{highest_below, highest_none, highest_more}
+use Rattle.engine.specs.Ranks.{highest_none, highest_more}
 use Rattle.engine.proofs.chooser.highest_of.Goals as goal
 
 pub loop-j-init : goal.loop-j-init

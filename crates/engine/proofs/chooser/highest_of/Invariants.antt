@@ -1,7 +1,7 @@
 -- `highest_of` meets its contract: the loop keeps the highest of the places passed.
 use Prim.Native.Nat.{◌≤◌, ◌-◌}
-use mathlib.Core.Path.{◌≡◌, sym, ◌∙◌}
-use Rattle.engine.specs.Ranks.{highest_below, highest_none, highest_more}
+use mathlib.Core.Path.{◌≡◌}
+use Rattle.engine.specs.Ranks.{highest_below}
 use Rattle.engine.proofs.chooser.highest_of.Given as goal
 
 abbrev pub invariant-loop-j : goal.invariant-loop-j

@@ -1,8 +1,7 @@
 -- `lowest_of` meets its contract: the loop keeps the lowest of the places passed.
 use native.Mathlib.Omega.{arith}
-use Prim.Native.Nat.{◌≤◌, ◌-◌}
 use mathlib.Core.Path.{◌≡◌, sym, ◌∙◌}
-use Rattle.engine.specs.Ranks.{lowest_below, lowest_none, lowest_more}
+use Rattle.engine.specs.Ranks.{lowest_none, lowest_more}
 use Rattle.engine.proofs.chooser.lowest_of.Goals as goal
 
 pub loop-j-init : goal.loop-j-init

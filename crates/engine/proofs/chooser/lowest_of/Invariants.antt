@@ -1,7 +1,7 @@
 -- `lowest_of` meets its contract: the loop keeps the lowest of the places passed.
 use Prim.Native.Nat.{◌≤◌, ◌-◌}
-use mathlib.Core.Path.{◌≡◌, sym, ◌∙◌}
-use Rattle.engine.specs.Ranks.{lowest_below, lowest_none, lowest_more}
+use mathlib.Core.Path.{◌≡◌}
+use Rattle.engine.specs.Ranks.{lowest_below}
 use Rattle.engine.proofs.chooser.lowest_of.Given as goal
 
 abbrev pub invariant-loop-j : goal.invariant-loop-j

@@ -1,6 +1,5 @@
 -- `pick_for` meets its contract: the pick among the jobs before j, a job a turn.
 use native.Mathlib.Omega.{arith}
-use Prim.Native.Nat.{◌≤◌, ◌-◌}
 use mathlib.Core.Path.{◌≡◌, ◌∙◌}
 use Rattle.engine.specs.ChooserPass.{pick_none, pick_more}
 use Rattle.engine.proofs.chooser.pick_for.Goals as goal

@@ -1,6 +1,6 @@
 -- `pick_for` meets its contract: the pick among the jobs before j, a job a turn.
 use Prim.Native.Nat.{◌≤◌, ◌-◌}
-use mathlib.Core.Path.{◌≡◌, ◌∙◌}
+use mathlib.Core.Path.{◌≡◌}
 use lib.Dec.{eqb}
 use lib.ListN.{get_or}
 use Rattle.engine.specs.Chooser.{pick_below}

@@ -1,6 +1,5 @@
 -- `top_of` meets its contract: the loop keeps the largest of the numbers passed.
 use native.Mathlib.Omega.{arith}
-use Prim.Native.Nat.{◌≤◌, ◌-◌}
 use mathlib.Core.Path.{◌≡◌, sym, ◌∙◌}
 use Rattle.laws.specs.FoldLaws.{max_none, max_more}
 use Rattle.engine.proofs.form.top_of.Goals as goal

@@ -1,6 +1,6 @@
 -- `top_of` meets its contract: the loop keeps the largest of the numbers passed.
 use Prim.Native.Nat.{◌≤◌, ◌-◌}
-use mathlib.Core.Path.{◌≡◌, sym, ◌∙◌}
+use mathlib.Core.Path.{◌≡◌}
 use Rattle.engine.specs.FormPass.{top_below}
 use Rattle.engine.proofs.form.top_of.Given as goal
 

@@ -1,8 +1,8 @@
 -- `first_refused` meets its contract: each turn looks at one job.
 use native.Mathlib.Omega.{arith}
-use Prim.Native.Nat.{◌≤◌, ◌+◌, ◌-◌}
+use Prim.Native.Nat.{◌-◌}
 use mathlib.Core.Path.{◌≡◌, sym, ◌∙◌}
-use Rattle.engine.specs.InsertAllPass.{refused_from, look_none, look_full, look_refused, look_more}
+use Rattle.engine.specs.InsertAllPass.{look_none, look_full, look_refused, look_more}
 use Rattle.engine.proofs.insert_all.first_refused.Goals as goal
 
 pub loop-k-init : goal.loop-k-init

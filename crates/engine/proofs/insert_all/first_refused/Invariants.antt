@@ -1,7 +1,7 @@
 -- `first_refused` meets its contract: each turn looks at one job.
 use Prim.Native.Nat.{◌≤◌, ◌+◌, ◌-◌}
-use mathlib.Core.Path.{◌≡◌, sym, ◌∙◌}
-use Rattle.engine.specs.InsertAllPass.{refused_from, look_none, look_full, look_refused, look_more}
+use mathlib.Core.Path.{◌≡◌}
+use Rattle.engine.specs.InsertAllPass.{refused_from}
 use Rattle.engine.proofs.insert_all.first_refused.Given as goal
 
 -- what the jobs left decide is what all decide

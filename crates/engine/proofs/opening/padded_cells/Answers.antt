@@ -1,9 +1,8 @@
 -- `padded_cells` meets its contract: the cells below i are copied.
 use native.Mathlib.Omega.{arith}
-use Prim.Native.Nat.{◌≤◌, ◌-◌}
 use mathlib.Core.Path.{◌≡◌, refl}
 use lib.IntN.{pos}
-use lib.ListN.{length, take, drop, replicate}
+use lib.ListN.{length, replicate}
 use lib.Seq.{take-length}
 use mir.Facts.{to_z-of_z}
 use borrow.Author.Rules.{sfits_of}

@@ -1,7 +1,7 @@
 -- `padded_cells` meets its contract: the cells below i are copied.
 use Prim.Native.Nat.{◌≤◌, ◌-◌}
 use mathlib.Core.List.{◌++◌}
-use mathlib.Core.Path.{◌≡◌, refl}
+use mathlib.Core.Path.{◌≡◌}
 use lib.IntN.{pos}
 use lib.ListN.{length, take, drop, replicate}
 use Rattle.engine.proofs.opening.padded_cells.Given as goal

@@ -1,9 +1,6 @@
 -- `unusable_any` meets its contract: a search over the four places.
 use native.Mathlib.Omega.{arith}
-use Prim.Native.Nat.{◌≤◌, ◌-◌}
-use mathlib.Core.Bool.{false}
 use Rattle.laws.specs.SearchLaws.{any_none, found, passed, missed}
-use Rattle.engine.specs.Speculation.{unusable_at}
 use Rattle.engine.proofs.speculation.unusable_any.Goals as goal
 
 pub loop-place-init : goal.loop-place-init

@@ -3,7 +3,6 @@ use Prim.Native.Nat.{◌≤◌, ◌-◌}
 use mathlib.Core.Bool.{false}
 use mathlib.Core.Path.{◌≡◌}
 use Rattle.laws.specs.Search.{any_below}
-use Rattle.laws.specs.SearchLaws.{any_none, found, passed, missed}
 use Rattle.engine.specs.Speculation.{unusable_at}
 use Rattle.engine.proofs.speculation.unusable_any.Given as goal
 

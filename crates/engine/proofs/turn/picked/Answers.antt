@@ -1,5 +1,5 @@
 -- `picked` meets its contract.
-use mathlib.Core.Path.{ap, ◌∙◌}
+use mathlib.Core.Path.{ap}
 use borrow.Author.Tests.{lt-ltb, le-ltb}
 use Rattle.engine.specs.declared.chooser.Pick.{Pick}
 use Rattle.engine.proofs.turn.picked.Goals as goal
