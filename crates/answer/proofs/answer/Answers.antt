@@ -8,4 +8,4 @@ use Rattle.answer.proofs.answer.Goals as goal
 pub returns : goal.returns
 returns c =
     let ran = c.run.ensures in
-    (ran.put, ((λ room. put_fits ran.put (omega (arith, ran.bytes_len_bound))), put_counts ran.put))
+    record { put = ran.put; out_after = (λ room. put_fits ran.put (omega (arith, ran.bytes_len_bound))); prefix_len = put_counts ran.put }

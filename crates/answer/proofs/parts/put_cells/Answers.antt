@@ -50,4 +50,4 @@ returns c =
     let loop = c.loop-x in
     let few = few_cells c.before.before.before in
     let all : loop.x ≡ c.progress-progress.result.cell_count = omega arith in
-    rw (← c.progress-progress.ensures) (rw all at loop.invariant.1, omega (arith, rw all at loop.invariant.2))
+    rw (← c.progress-progress.ensures) record { put = rw all at loop.invariant.1; batch_len_bound = omega (arith, rw all at loop.invariant.2) }

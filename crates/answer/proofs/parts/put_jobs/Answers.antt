@@ -11,7 +11,6 @@ use Rattle.answer.proofs.parts.put_jobs.Goals as goal
 use Rattle.answer.proofs.parts.put_jobs.Lts as lts
 use Rattle.answer.proofs.parts.put_jobs.Tie as tie
 use Rattle.answer.proofs.parts.put_jobs.Reads as reads
-use Rattle.answer.proofs.parts.put_jobs.Invariants.{bytes}
 
 -- places that the lemmas below speak of
 abbrev After-progress-progress : Type 0
@@ -27,6 +26,10 @@ few_jobs c = search rules
 -- before the first turn nothing is written
 pub loop-j-init : goal.loop-j-init
 loop-j-init c = (omega arith, put_none _ _, omega arith)
+
+-- a turn: how it was committed and its mark are bytes
+bytes : (c : After-job-shown) → (c.job-shown.result.committed < 256) × (c.job-shown.result.wrote < 256)
+bytes c = (search rules, search rules)
 
 -- a turn: one line more, of three numbers that are bytes
 pub loop-j-preserved : goal.loop-j-preserved
@@ -48,4 +51,4 @@ returns c =
     let loop = c.loop-j in
     let few = few_jobs c.before.before.before in
     let all : loop.j ≡ c.progress-progress.result.job_count = omega arith in
-    rw (← c.progress-progress.ensures) (rw all at loop.invariant.1, omega (arith, rw all at loop.invariant.2))
+    rw (← c.progress-progress.ensures) record { put = rw all at loop.invariant.1; batch_len_bound = omega (arith, rw all at loop.invariant.2) }

@@ -1,7 +1,6 @@
 -- `put_jobs` meets its contract: after j turns the lines of the jobs below j are written.
 use Prim.Native.Nat.{◌<◌, ◌≤◌, ◌*◌, ◌-◌}
 use lib.ListN.{length}
-use borrow.Author.Rules.{rules}
 use Rattle.render.specs.Put.{Put}
 use Rattle.answer.specs.Output.{lines_below, job_line, jobs_text}
 use Rattle.answer.proofs.parts.put_jobs.Given as goal
@@ -16,7 +15,3 @@ invariant-loop-j l =
 -- The jobs that are left.
 abbrev pub decreases-loop-j : goal.decreases-loop-j
 decreases-loop-j l = l.n - l.j
-
--- a turn: how it was committed and its mark are bytes
-pub bytes : (c : After-job-shown) → (c.job-shown.result.committed < 256) × (c.job-shown.result.wrote < 256)
-bytes c = (search rules, search rules)
