@@ -5,6 +5,10 @@ ghost use Rattle.std.specs.Prelude.{◌≤◌, ◌≡◌, length, take};
 ghost use Rattle.io.specs.Counts.{IsPrefixLen};
 ghost use Rattle.answer.specs.Output.{output_of};
 
+use std::env::{Env, FillError};
+use std::io;
+use std::io::Write;
+
 mod input;
 
 /// How the program is used.
@@ -34,48 +38,75 @@ fn respond(input: &[u8], output: &mut [u8]) -> usize
     answer::answer(input, output)
 }
 
-/// R154: writes all of the text to standard output, or says why it could not. Some systems tell of a full disk only on closing.
-fn write_out(text: &[u8]) {
-    if !io::write_all(libc::STDOUT_FILENO, text) {
-        os::fail(b"gaugebatch: the answer could not be written whole");
-        return;
+/// What comes before the system's number of an error.
+fn words_of(told: &str) -> &str {
+    match told.split_once(" (os error ") {
+        Some((words, _)) => words,
+        None => told,
     }
-    if libc::close(libc::STDOUT_FILENO) != 0 {
-        os::fail(b"gaugebatch: the answer could not be written whole");
+}
+
+/// R154: says on standard error what could not be done, and the system's reason.
+fn say_why(rt: &HostRuntime, what: &str, error: io::Error) -> io::Result<()> {
+    let told = format!(in rt.alloc(); "{error}")?;
+    let words = words_of(told.as_str());
+    eprintln!(rt; "gaugebatch: {what}: {words}")
+}
+
+/// The same; with standard error closed too nothing can be said.
+fn complain(rt: &HostRuntime, what: &str, error: io::Error) {
+    let _ = say_why(rt, what, error);
+}
+
+/// R154: writes all of the text to standard output, or says why it could not.
+fn write_out(rt: &HostRuntime, text: &[u8]) {
+    if let Err(error) = rt.stdout().write_all(text) {
+        complain(rt, "the answer could not be written whole", error);
+    }
+}
+
+/// Whether the program was given an argument with that number. Number 0 is its own name.
+fn is_given(rt: &HostRuntime, number: usize) -> bool {
+    let mut word = [0u8; 1];
+    match rt.arg(number, &mut word) {
+        Err(FillError::NotPresent) => false,
+        _ => true,
     }
 }
 
 /// R155: whether the only argument asks how the program is used. A longer word than the buffer takes is another one.
-fn asks_for_help() -> bool {
-    if os::arg_count() != 2 {
+fn asks_for_help(rt: &HostRuntime) -> bool {
+    if is_given(rt, 2) {
         return false;
     }
     let mut word = [0u8; 8];
-    let n = os::arg(1, &mut word);
-    if text::same_text(&word[..n], b"--help") {
-        return true;
+    match rt.arg(1, &mut word) {
+        Ok(n) => {
+            let asked = &word[..n];
+            text::same_text(asked, b"--help") || text::same_text(asked, b"-h")
+        }
+        Err(_) => false,
     }
-    text::same_text(&word[..n], b"-h")
 }
 
-fn main() {
-    if asks_for_help() {
-        write_out(&USAGE);
+fn main(rt: HostRuntime) {
+    if asks_for_help(&rt) {
+        write_out(&rt, &USAGE);
         return;
     }
-    if 1 < os::arg_count() {
-        io::write_all(libc::STDERR_FILENO, b"gaugebatch: no such argument\n");
-        io::write_all(libc::STDERR_FILENO, &USAGE);
+    if is_given(&rt, 1) {
+        let _ = rt.stderr().write_all(b"gaugebatch: no such argument\n");
+        let _ = rt.stderr().write_all(&USAGE);
         return;
     }
     let mut input = input_buffer();
-    let read = input::read_input(&mut input);
-    if read.failed {
-        os::fail(b"gaugebatch: the plan could not be read");
+    let read = input::read_input(&mut rt.stdin(), &mut input);
+    if let Some(error) = read.failed {
+        complain(&rt, "the plan could not be read", error);
         return;
     }
     let n = read.length;
     let mut output = output_buffer();
     let m = respond(&input[..n], &mut output);
-    write_out(&output[..m]);
+    write_out(&rt, &output[..m]);
 }
