@@ -1,7 +1,6 @@
 -- The record and the ledger agree after an opening, and go on together with every accepted call.
 use Rattle.std.specs.Prelude.{ℕ, zero, suc, ◌+◌, ◌-◌, ◌≤◌, false, List, ◌≡◌, refl, eqb, ℤ, pos, length, get_or, drop, replicate}
 use Rattle.std.proofs.Common.{arith, ap, ◌∙◌, length-append, length-drop, ltb-false}
-use Rattle.std.proofs.Math.Option.{some}
 use Rattle.std.proofs.lemmas.List.{length-replicate}
 use Rattle.std.proofs.lemmas.Bool.{eqb-false}
 use Rattle.laws.specs.SearchLaws.{if-or, or_left, or_right}

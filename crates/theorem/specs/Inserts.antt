@@ -1,5 +1,5 @@
 -- The ledger's jobs are those of the accepted inserts: the proof.
-use Rattle.std.specs.Prelude.{ℕ, suc, ◌+◌, ◌<◌, Bool, true, false, cond, List, [], ◌∷◌, ◌++◌, ◌≡◌, refl, ℤ, length}
+use Rattle.std.specs.Prelude.{ℕ, suc, ◌<◌, Bool, true, false, cond, List, [], ◌∷◌, ◌++◌, ◌≡◌, refl, ℤ, length}
 use Rattle.std.proofs.Common.{arith, append_assoc, append-nil, sym, ap, ◌∙◌, length-append}
 use Rattle.std.proofs.Math.ListN.{get_or-append}
 use Rattle.std.proofs.Math.Seq.{get_or-append_seam}
@@ -9,7 +9,7 @@ use Rattle.rules.specs.Call.{Call, insert, seal, start_own, start_speculation, r
 use Rattle.engine.specs.Opening.{opened}
 use Rattle.claims.specs.Ledger.{Ledger}
 use Rattle.claims.specs.Enter.{enter}
-use Rattle.claims.specs.Trace.{Event, events_of, recorded, ledger_after, ledger_of}
+use Rattle.claims.specs.Trace.{Event, events_of, recorded, ledger_after}
 use Rattle.claims.specs.SameEnd.{SameJobs}
 use Rattle.claims.specs.Inserts.{job_of, jobs_of, JobsAre, InsertsStatement, SameInserts, SameInsertsStatement}
 use Rattle.theorem.specs.Update.{at-or, update_same, update_other}

@@ -1,16 +1,15 @@
 -- R187 and R188: the proof. For a predicted cell there is no going back, so nothing is missing on its account, and what is
 -- handed out there is the prediction.
-use Rattle.std.specs.Prelude.{ℕ, ◌<◌, Bool, true, false, cond, not, ◌&&◌, ◌≡◌, refl, ℤ, pos}
-use Rattle.std.proofs.Common.{arith, sym, ap, ◌∙◌}
+use Rattle.std.specs.Prelude.{ℕ, ◌<◌, Bool, true, false, cond, not, ◌&&◌, ◌≡◌, refl, pos}
+use Rattle.std.proofs.Common.{arith, sym, ◌∙◌}
 use borrow.Author.Tests.{lt-leb}
 use Rattle.laws.specs.RefusalLaws.{accepted}
-use Rattle.laws.specs.SearchLaws.{any_absent, if-or, and_left, and_right}
+use Rattle.laws.specs.SearchLaws.{any_absent, if-or}
 use Rattle.dependence.specs.declared.Job.{Job}
 use Rattle.dependence.specs.Job.{is_predicted, in_use, access_at, prediction_at, predicts_at, job_at}
 use Rattle.rules.specs.Call.{start_speculation}
 use Rattle.rules.specs.Values.{value_at}
 use Rattle.rules.specs.Walk.{looks_back}
-use Rattle.rules.specs.Snapshot.{Snapshot}
 use Rattle.rules.specs.Speculation.{source_now, unusable, source_missing}
 use Rattle.rules.specs.Refusals.{tests_of, refusal_of}
 use Rattle.engine.specs.declared.Batch.{Batch}

@@ -38,5 +38,8 @@ returns c =
     let short = le-ltb _ _ c.if-bytes-gt-LONGEST.false in
     let sound = eq-eqb _ _ c.if-fault-ne0.false in
     let lines = c.line_start-from.ensures.bytes_value in
-    let rest : length (drop from bytes) ≡ length bytes - from = length-drop from bytes in record { put = rw (short, ← c.read_plan-reading.ensures, sound, ← same_parts, ← lines) c.put_parts.ensures.put; bytes_len_bound = rw (short, ← c.read_plan-reading.ensures, sound, ← same_parts, ← lines)
-          (omega (arith, c.put_parts.ensures.bytes_len_bound, few_pieces line_feed (drop from bytes), c.if-bytes-gt-LONGEST.false)) }
+    let rest : length (drop from bytes) ≡ length bytes - from = length-drop from bytes in record {
+      put = rw (short, ← c.read_plan-reading.ensures, sound, ← same_parts, ← lines) c.put_parts.ensures.put;
+      bytes_len_bound = rw (short, ← c.read_plan-reading.ensures, sound, ← same_parts, ← lines)
+          (omega (arith, c.put_parts.ensures.bytes_len_bound, few_pieces line_feed (drop from bytes), c.if-bytes-gt-LONGEST.false));
+    }

@@ -1,7 +1,6 @@
 -- `open_in` meets its contract: the set of the open jobs that the walk has come to.
 use native.Mathlib.Omega.{arith}
-use Prim.Native.Nat.{◌≤◌, ◌-◌}
-use mathlib.Core.Path.{◌≡◌, sym, ap, ◌∙◌}
+use mathlib.Core.Path.{sym, ap, ◌∙◌}
 use Rattle.walk.specs.SourceLaws.{set_none}
 use Rattle.jobset.specs.JobSet.{least_of}
 use Rattle.jobset.specs.SizeLaws.{next_has}
@@ -41,7 +40,7 @@ loop-job-preserved c =
     let next = sym c.next-least.ensures ∙ ap least_of c.in-Job.is in (
       omega (arith, (next_has _ _ _ next).1),
       (elim c.if-committed-j-eq0.branch [
-      then-committed-j-eq0 h ↦ h.open-is ∙ (h.with-open.ensures ∙ open_found a.set a.committed.now l.from l.invariant.1 _ next h.if-committed-j-eq0.true)
-      | else-committed-j-eq0 h ↦ h.open-is ∙ settled_passed a.set a.committed.now l.from l.invariant.1 _ next h.if-committed-j-eq0.false
-    ]),
+        | then-committed-j-eq0 h ↦ h.open-is ∙ (h.with-open.ensures ∙ open_found a.set a.committed.now l.from l.invariant.1 _ next h.if-committed-j-eq0.true)
+        | else-committed-j-eq0 h ↦ h.open-is ∙ settled_passed a.set a.committed.now l.from l.invariant.1 _ next h.if-committed-j-eq0.false
+      ]),
     )

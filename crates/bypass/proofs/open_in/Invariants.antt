@@ -1,6 +1,6 @@
 -- `open_in` meets its contract: the set of the open jobs that the walk has come to.
 use Prim.Native.Nat.{◌≤◌, ◌-◌}
-use mathlib.Core.Path.{◌≡◌, sym, ap, ◌∙◌}
+use mathlib.Core.Path.{◌≡◌}
 use Rattle.walk.specs.Sources.{set_of}
 use Rattle.bypass.specs.Bypass.{open_at}
 use Rattle.bypass.proofs.open_in.Given as goal

@@ -14,7 +14,7 @@ returns c =
     let live : c.is_live.result ≡ is_live a.phase = c.is_live.ensures in
     let known : c.if-is_live.known ≡ bypassed_in a.bypassed a.phase =
     elim c.if-is_live.branch [
-      then-is_live h ↦ h.known-is ∙ rw (← live, h.if-is_live.true)
+      | then-is_live h ↦ h.known-is ∙ rw (← live, h.if-is_live.true)
       | else-is_live h ↦ h.known-is ∙ c.empty-known.ensures ∙ rw (← live, h.if-is_live.false)
     ] in
     let past : c.told.result ≡ told_of (has_job (bypassed_in a.bypassed a.phase)) =

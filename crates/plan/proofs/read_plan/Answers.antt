@@ -1,8 +1,7 @@
 -- `read_plan` meets its contract: what is left to read gives what the whole input gives.
-use Prim.Native.Nat.{◌≤◌, ◌-◌, ◌+◌}
 use native.Mathlib.Omega.{arith}
-use mathlib.Core.Path.{◌≡◌, refl, ◌∙◌}
-use Rattle.text.specs.Pieces.{line_feed, pieces}
+use mathlib.Core.Path.{refl, ◌∙◌}
+use Rattle.text.specs.Pieces.{line_feed}
 use Rattle.text.specs.PieceLaws.{last_piece, next_piece}
 use Rattle.plan.specs.Plan.{lines_read}
 use Rattle.plan.specs.PlanLaws.{read_next}

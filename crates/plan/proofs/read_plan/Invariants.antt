@@ -1,6 +1,6 @@
 -- `read_plan` meets its contract: what is left to read gives what the whole input gives.
 use Prim.Native.Nat.{◌≤◌, ◌-◌, ◌+◌}
-use mathlib.Core.Path.{◌≡◌, refl, ◌∙◌}
+use mathlib.Core.Path.{◌≡◌}
 use lib.ListN.{length, drop}
 use Rattle.text.specs.Pieces.{line_feed, pieces}
 use Rattle.plan.specs.Plan.{lines_read}

@@ -1,10 +1,9 @@
 -- `run_steps` meets its contract: what finishes the lines that are left finishes all of them.
-use Prim.Native.Nat.{ℕ, ◌≤◌, ◌-◌}
 use native.Mathlib.Omega.{arith}
-use mathlib.Core.List.{List, []}
+use mathlib.Core.List.{[]}
 use mathlib.Core.Path.{◌≡◌, refl, sym, ◌∙◌}
-use lib.ListN.{length, drop, drop_of_length-le}
-use Rattle.text.specs.Pieces.{line_feed, pieces}
+use lib.ListN.{drop, drop_of_length-le}
+use Rattle.text.specs.Pieces.{line_feed}
 use Rattle.text.specs.PieceLaws.{last_piece, next_piece}
 use Rattle.render.specs.PutLaws.{put_then, put_none, put_long}
 use Rattle.stepping.specs.SteppingLaws.{no_lines, text_next, after_next, text_last, after_last}

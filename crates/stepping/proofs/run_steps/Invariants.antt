@@ -1,8 +1,8 @@
 -- `run_steps` meets its contract: what finishes the lines that are left finishes all of them.
 use Prim.Native.Nat.{ℕ, ◌≤◌, ◌-◌}
-use mathlib.Core.List.{List, []}
-use mathlib.Core.Path.{◌≡◌, refl, sym, ◌∙◌}
-use lib.ListN.{length, drop, drop_of_length-le}
+use mathlib.Core.List.{List}
+use mathlib.Core.Path.{◌≡◌}
+use lib.ListN.{length, drop}
 use Rattle.text.specs.Pieces.{line_feed, pieces}
 use Rattle.render.specs.Put.{Put}
 use Rattle.stepping.specs.Stepping.{steps_text, batch_after_lines}

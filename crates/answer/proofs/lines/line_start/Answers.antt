@@ -1,9 +1,9 @@
 -- `line_start` meets its contract: so many lines are left to pass.
 use native.Mathlib.Omega.{arith}
 use mathlib.Core.Path.{◌≡◌, refl, sym, ◌∙◌}
-use Rattle.text.specs.Pieces.{line_feed, pieces}
+use Rattle.text.specs.Pieces.{line_feed}
 use Rattle.text.specs.PieceLaws.{last_piece, next_piece}
-use Rattle.answer.specs.Lines.{lines_after, after_none, after_last_piece, after_line}
+use Rattle.answer.specs.Lines.{after_none, after_last_piece, after_line}
 use Rattle.answer.proofs.lines.line_start.Goals as goal
 
 -- before the first turn none is passed

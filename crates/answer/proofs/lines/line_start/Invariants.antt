@@ -1,9 +1,9 @@
 -- `line_start` meets its contract: so many lines are left to pass.
 use Prim.Native.Nat.{◌≤◌}
-use mathlib.Core.Path.{◌≡◌, refl, sym, ◌∙◌}
+use mathlib.Core.Path.{◌≡◌}
 use lib.ListN.{length, drop}
 use Rattle.text.specs.Pieces.{line_feed, pieces}
-use Rattle.answer.specs.Lines.{lines_after, after_none, after_last_piece, after_line}
+use Rattle.answer.specs.Lines.{lines_after}
 use Rattle.answer.proofs.lines.line_start.Given as goal
 
 -- The lines after the first k are those after `left` more lines from `at` on.

@@ -1,15 +1,14 @@
 -- `put_cells` meets its contract: after x turns the lines of the cells below x are written.
-use Prim.Native.Nat.{◌<◌, ◌≤◌, ◌*◌, ◌-◌}
+use Prim.Native.Nat.{◌<◌}
 use native.Mathlib.Omega.{arith}
 use mathlib.Core.Path.{◌≡◌}
 use mir.Syntax.{w32}
 use mir.Val.{SFits}
 use mir.Facts.{to_z-of_z}
-use lib.ListN.{length}
 use borrow.Author.Rules.{rules}
 use Rattle.render.specs.Text.{height_line}
-use Rattle.render.specs.PutLaws.{put_then, put_none, put_long}
-use Rattle.answer.specs.Output.{lines_below, cell_line, cells_text}
+use Rattle.render.specs.PutLaws.{put_then, put_none}
+use Rattle.answer.specs.Output.{cell_line, cells_text}
 use Rattle.answer.specs.Lengths.{below_more, below_length, byte_and_height}
 use Rattle.answer.proofs.parts.put_cells.Goals as goal
 use Rattle.answer.proofs.parts.put_cells.Lts as lts

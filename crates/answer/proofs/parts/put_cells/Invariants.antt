@@ -1,8 +1,8 @@
 -- `put_cells` meets its contract: after x turns the lines of the cells below x are written.
-use Prim.Native.Nat.{◌<◌, ◌≤◌, ◌*◌, ◌-◌}
+use Prim.Native.Nat.{◌≤◌, ◌*◌, ◌-◌}
 use lib.ListN.{length}
 use Rattle.render.specs.Put.{Put}
-use Rattle.answer.specs.Output.{lines_below, cell_line, cells_text}
+use Rattle.answer.specs.Output.{lines_below, cell_line}
 use Rattle.answer.proofs.parts.put_cells.Given as goal
 
 -- The lines of the cells below x are written, each with at most 16 bytes.

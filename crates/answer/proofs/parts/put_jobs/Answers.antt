@@ -1,11 +1,10 @@
 -- `put_jobs` meets its contract: after j turns the lines of the jobs below j are written.
-use Prim.Native.Nat.{◌<◌, ◌≤◌, ◌*◌, ◌-◌}
+use Prim.Native.Nat.{◌<◌}
 use native.Mathlib.Omega.{arith}
 use mathlib.Core.Path.{◌≡◌}
-use lib.ListN.{length}
 use borrow.Author.Rules.{rules}
-use Rattle.render.specs.PutLaws.{put_then, put_none, put_long}
-use Rattle.answer.specs.Output.{lines_below, job_line, jobs_text}
+use Rattle.render.specs.PutLaws.{put_then, put_none}
+use Rattle.answer.specs.Output.{job_line, jobs_text}
 use Rattle.answer.specs.Lengths.{below_more, below_length, three_bytes}
 use Rattle.answer.proofs.parts.put_jobs.Goals as goal
 use Rattle.answer.proofs.parts.put_jobs.Lts as lts

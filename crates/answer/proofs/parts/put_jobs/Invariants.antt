@@ -1,8 +1,8 @@
 -- `put_jobs` meets its contract: after j turns the lines of the jobs below j are written.
-use Prim.Native.Nat.{◌<◌, ◌≤◌, ◌*◌, ◌-◌}
+use Prim.Native.Nat.{◌≤◌, ◌*◌, ◌-◌}
 use lib.ListN.{length}
 use Rattle.render.specs.Put.{Put}
-use Rattle.answer.specs.Output.{lines_below, job_line, jobs_text}
+use Rattle.answer.specs.Output.{lines_below, job_line}
 use Rattle.answer.proofs.parts.put_jobs.Given as goal
 
 -- The lines of the jobs below j are written, each with at most 12 bytes.

@@ -1,5 +1,5 @@
 -- `last_out` is safe, and ends: each turn goes one job back.
-use Prim.Native.Nat.{◌≤◌, ◌-◌}
+use Prim.Native.Nat.{◌≤◌}
 use Rattle.mornings.proofs.chosen.last_out.Given as goal
 
 abbrev pub invariant-loop-next : goal.invariant-loop-next

@@ -1,6 +1,5 @@
 -- `Tally::below` meets its contract: a job a turn.
 use native.Mathlib.Omega.{arith}
-use Prim.Native.Nat.{◌≤◌, ◌-◌}
 use native.Mathlib.Nat.{lt_of_le_of_lt}
 use mathlib.Core.Path.{◌≡◌, ◌∙◌}
 use Rattle.tally.specs.TallyLaws.{tally_none, tally_more, tally_limit}

@@ -1,6 +1,6 @@
 -- `Tally::below` meets its contract: a job a turn.
 use Prim.Native.Nat.{◌≤◌, ◌-◌}
-use mathlib.Core.Path.{◌≡◌, ◌∙◌}
+use mathlib.Core.Path.{◌≡◌}
 use Rattle.tally.specs.Tally.{tally_below}
 use Rattle.tally.proofs.Tally.below.Given as goal
 
