@@ -2,7 +2,7 @@
 use Rattle.std.specs.Prelude.{ℕ, zero, suc, ◌-◌, ◌<◌, List, [], ◌∷◌, ◌≡◌, refl, length, drop}
 use Rattle.std.proofs.Common.{sub-one, arith}
 use Rattle.text.specs.Pieces.{pieces}
-use Rattle.text.specs.PieceLaws.{some_piece}
+use Rattle.text.proofs.PieceLaws.{some_piece}
 use Rattle.engine.specs.declared.Batch.{Batch}
 use Rattle.stepping.specs.Stepping.{steps_text, batch_after_lines}
 use Rattle.answer.specs.Output.{parts_text}

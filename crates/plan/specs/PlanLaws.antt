@@ -2,7 +2,7 @@
 use Rattle.std.specs.Prelude.{ℕ, ◌+◌, ◌<◌, List, [], ◌∷◌, ◌≡◌, refl, length}
 use Rattle.std.proofs.Common.{arith, ne_eqb}
 use Rattle.text.specs.Pieces.{pieces}
-use Rattle.text.specs.PieceLaws.{some_piece}
+use Rattle.text.proofs.PieceLaws.{some_piece}
 use Rattle.plan.specs.declared.Reading.{Reading}
 use Rattle.plan.specs.Plan.{line_read, ended, lines_read}
 

@@ -7,7 +7,7 @@ use Rattle.std.proofs.Math.Option.{some}
 use Rattle.std.proofs.lemmas.List.{length-map, set-get_or}
 use Rattle.std.proofs.Math.ListN.{get_or-map}
 use seplogic.Ra.Ura.{Ura}
-use seplogic.Ra.TreeShare.{full_share}
+use base.Fraction.{full_share}
 use mir.Syntax.{Ty, ty_array, Opd, Body, skip, seq, cond}
 use mir.Val.{Val, vbool, WT, has_ty}
 use base.Logic.{SProp, ent, sep, wand, all, via, apply∗, all_e, guard_i}
@@ -34,10 +34,11 @@ use denote.Struct.Field.{Field, rows}
 use denote.Struct.Struct.{to_tys}
 use denote.Struct.Values.{intos}
 use denote.Struct.Laws.{FLaws, Lawss, Plain}
+use denote.Struct.Loose.{loosens}
 use denote.Struct.At.{FieldAt, law_at, get_at, put_at}
 use borrow.Table.OneValue.{One, part_in}
 use borrow.Rule.Array.Init.{part_room}
-use borrow.Struct.Behind.{put-at}
+use borrow.Struct.Behind.{put_at_lem}
 
 module _ {M : Type 1} {𝓤 : Ura M} (𝓛 : Logic 𝓤) where
   -- In h of R at a lies f of F at c, and with f' there it is h'.
@@ -74,7 +75,7 @@ module _ {M : Type 1} {𝓤 : Ura M} (𝓛 : Logic 𝓤) where
       → Within 𝓛 (declared.row (declared N gp)) (FieldAt N.parts k).row x x' ((FieldAt N.parts k).into (get_at N.parts k (N.as_values x)))
       ((FieldAt N.parts k).into y) a (a.0, a.1 + d)
   member N gp L k d one at x x' y a e =
-      put-at 𝓛 full_share (declared N gp) L k d one at a x x' (N.as_values x) y refl (ap (intos N.parts) e)
+      put_at_lem 𝓛 full_share (declared N gp) (loosens N.parts L) k d one at a x x' (N.as_values x) y refl (ap (intos N.parts) e)
 
   -- What is stored at a field's type is typed, and had for nothing.
   pub typed : (F : Field) → FLaws F → One F.row → (y : F.Value) (v : Val) → Is F.row (F.into y) (v ∷ []) → T (has_ty (lone F.row.mir) v) × WT v
@@ -139,9 +140,9 @@ module _ {M : Type 1} {𝓤 : Ura M} {𝓛 : Logic 𝓤} {K : Type 0} {Γ : List
   open 𝓛 use {H}
 
   pub packs : K → {G : Goal 𝓤 H} (R : RattleType) (h : R.Denot) (vs : List Val) (b o : ℕ)
-      → Step K 𝓛 (‵ (part_at R full_share h b o) ∷ Γ) G (‵ (cell_at full_share R.mir vs b o) ∷ ‵ (R.own h vs) ∷ Γ) G
+      → Step K 𝓛 (‵ (part_at R full_share h b o) ∷ Γ) G (‵ (cell_at full_share R.mir vs b o) ∷ ‵ (R.own_val h vs) ∷ Γ) G
   unfolding part_of
-  packs t R h vs b o = step (λ s. fjoin t $ fpack t (List Val) (λ us. fsep (cell_at full_share R.mir us b o) (R.own h us)) vs $ s)
+  packs t R h vs b o = step (λ s. fjoin t $ fpack t (List Val) (λ us. fsep (cell_at full_share R.mir us b o) (R.own_val h us)) vs $ s)
 
   -- `if c { a }` and then the rest, where a may return.
   pub unless : K → {E : Env 𝓤 H} {C : Calls 𝓤 H} {Λ : Loops 𝓤 H} {q : Post 𝓤 H} {c : Opd} {a rest : Body} {y : Bool} → Evaluates K 𝓛 Γ E c (vbool y)

@@ -33,13 +33,12 @@ pub extern "C" fn sorghemi_step(batch: &mut Batch, number: u8, job: usize, repor
             values: [0; 4],
         };
     }
-    batch.cells = change.cells;
+    let cells = change.cells;
+    batch.cells = cells;
     batch.runs[job] = change.run;
     batch.committed[job] = change.now.committed;
     batch.running[job] = change.now.running;
     batch.phase[job] = change.now.phase;
-    Handed {
-        refusal: 0,
-        values: change.handed,
-    }
+    let values = change.handed;
+    Handed { refusal: 0, values }
 }

@@ -27,10 +27,14 @@ pub extern "C" fn sorghemi_turn(
     if change.refusal != 0 {
         return told;
     }
-    batch.cells = change.cells;
-    batch.committed = change.committed;
-    batch.running = change.running;
-    batch.phase = change.phase;
+    let cells = change.cells;
+    batch.cells = cells;
+    let committed = change.committed;
+    batch.committed = committed;
+    let running = change.running;
+    batch.running = running;
+    let phase = change.phase;
+    batch.phase = phase;
     let runs = change.changed;
     let mut i: usize = 0;
     while i < (change.stored as usize) {

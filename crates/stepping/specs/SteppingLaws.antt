@@ -11,7 +11,7 @@ use Rattle.engine.specs.Steps.{started_own, started_speculation, reported_own, r
 use Rattle.engine.specs.ByNumber.{without_values, no_such_step, stepped}
 use Rattle.engine.specs.declared.Batch.{Batch}
 use Rattle.text.specs.Pieces.{line_feed, pieces}
-use Rattle.text.specs.PieceLaws.{some_piece}
+use Rattle.text.proofs.PieceLaws.{some_piece}
 use Rattle.number.specs.Numbers.{count_of}
 use Rattle.number.specs.declared.Natural.{Natural}
 use Rattle.number.specs.declared.Natural.TheVariants as natural

@@ -6,7 +6,7 @@ use lib.ListN.{length, drop, length-drop}
 use borrow.Author.Tests.{lt-ltb, le-ltb, eq-eqb, ne_eqb}
 use borrow.Author.Rules.{rules}
 use Rattle.text.specs.Pieces.{line_feed}
-use Rattle.text.specs.PieceLaws.{few_pieces}
+use Rattle.text.proofs.PieceLaws.{few_pieces}
 use Rattle.answer.specs.Lines.{same_parts}
 use Rattle.answer.specs.Lengths.{fault_fits}
 use Rattle.answer.specs.Output.{reading_text, output_of}

@@ -2,7 +2,7 @@
 use native.Mathlib.Omega.{arith}
 use mathlib.Core.Path.{refl, ◌∙◌}
 use Rattle.text.specs.Pieces.{line_feed}
-use Rattle.text.specs.PieceLaws.{last_piece, next_piece}
+use Rattle.text.proofs.PieceLaws.{last_piece, next_piece}
 use Rattle.plan.specs.Plan.{lines_read}
 use Rattle.plan.specs.PlanLaws.{read_next}
 use Rattle.plan.proofs.read_plan.Goals as goal

@@ -4,7 +4,7 @@ use mathlib.Core.List.{[]}
 use mathlib.Core.Path.{◌≡◌, refl, sym, ◌∙◌}
 use lib.ListN.{drop, drop_of_length-le}
 use Rattle.text.specs.Pieces.{line_feed}
-use Rattle.text.specs.PieceLaws.{last_piece, next_piece}
+use Rattle.text.proofs.PieceLaws.{last_piece, next_piece}
 use Rattle.render.specs.PutLaws.{put_then, put_none, put_long}
 use Rattle.stepping.specs.SteppingLaws.{no_lines, text_next, after_next, text_last, after_last}
 use Rattle.stepping.proofs.run_steps.Goals as goal

@@ -1,6 +1,6 @@
 -- `cut` meets its contract: the search of the bytes from the place on gives the end of the piece.
 use mathlib.Core.Path.{sym, ◌∙◌}
-use Rattle.text.specs.PieceLaws.{end_found}
+use Rattle.text.proofs.PieceLaws.{end_found}
 use Rattle.text.proofs.cut.Goals as goal
 
 -- what the search found

@@ -3,7 +3,7 @@ use native.Mathlib.Nat.{sub_self}
 use native.Mathlib.Omega.{arith}
 use mathlib.Core.Path.{refl, sym, ◌∙◌}
 use Rattle.text.specs.Pieces.{space}
-use Rattle.text.specs.PieceLaws.{last_piece, next_piece, head_piece, later_piece}
+use Rattle.text.proofs.PieceLaws.{last_piece, next_piece, head_piece, later_piece}
 use Rattle.text.proofs.field.Goals as goal
 
 -- at first the rest is the line

@@ -1,7 +1,7 @@
 -- `field_count` meets its contract: the fields of the line are those counted and those of what stands from `at` on.
 use native.Mathlib.Omega.{arith}
 use Rattle.text.specs.Pieces.{space}
-use Rattle.text.specs.PieceLaws.{last_piece, next_piece}
+use Rattle.text.proofs.PieceLaws.{last_piece, next_piece}
 use Rattle.text.proofs.field_count.Goals as goal
 
 -- at first the rest is the line

@@ -1,6 +1,6 @@
 -- `find` meets its contract: at each place the search ends, or goes on behind another byte.
 use Rattle.std.proofs.Common.{arith, refl}
-use Rattle.text.specs.PieceLaws.{index_met, index_passed, index_end}
+use Rattle.text.proofs.PieceLaws.{index_met, index_passed, index_end}
 use Rattle.text.proofs.find.Goals as goal
 
 pub loop-i-init : goal.loop-i-init

@@ -2,7 +2,7 @@
 use native.Mathlib.Omega.{arith}
 use mathlib.Core.Path.{◌≡◌, refl, sym, ◌∙◌}
 use Rattle.text.specs.Pieces.{line_feed}
-use Rattle.text.specs.PieceLaws.{last_piece, next_piece}
+use Rattle.text.proofs.PieceLaws.{last_piece, next_piece}
 use Rattle.answer.specs.Lines.{after_none, after_last_piece, after_line}
 use Rattle.answer.proofs.lines.line_start.Goals as goal
 
