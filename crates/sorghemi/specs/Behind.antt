@@ -1,4 +1,4 @@
--- Storing a part of a value that lies behind a reference, for a walk by hand of a function's MIR: a field of a struct, or an
+-- Laws of the logic's memory: storing a part of a value that lies behind a reference: a field of a struct, or an
 -- element of an array that is a field. The borrow is open, and the struct is one entry of the context, as a value of its type in
 -- memory; afterwards the entry is the struct with the part stored. And reading an element of an array in a local.
 use Rattle.std.specs.Prelude.{◌≡◌, refl, List, [], ◌∷◌, map, ℕ, zero, suc, ◌+◌, ◌<◌, T, length, get_or, set, Bool, not}

@@ -1,5 +1,5 @@
--- What the walks by hand of the functions that store into a lent batch have in common: the record after a store, and what a test
--- of a refusal says.
+-- What the proofs of the functions that store into a lent batch have in common: the record after a store, and what a test of a
+-- refusal says.
 use Rattle.std.specs.Prelude.{Bool, true, false, not, ◌≡◌, refl, List, ℕ, T, eqb, ℤ}
 use Rattle.std.proofs.Common.{eqb→eq}
 use Rattle.engine.specs.declared.Batch.{Batch}
