@@ -1,4 +1,4 @@
-//! Links the archive that `rt staticlib sorghemi` writes. SORGHEMI_LIB names its folder where it is not the project's own.
+//! Links the archive that `scripts/build sorghemi` writes. SORGHEMI_LIB names its folder where it is not the project's own.
 use std::path::{Path, PathBuf};
 
 fn main() {
@@ -14,7 +14,7 @@ fn main() {
     if !folder.join("libsorghemi.a").is_file() {
         let by = if named.is_some() { ", which SORGHEMI_LIB names" } else { "" };
         eprintln!("There is no libsorghemi.a in {}{by}.", folder.display());
-        eprintln!("Run `rt staticlib sorghemi` in {}, which writes it to target/staticlib,", top.display());
+        eprintln!("Run `scripts/build sorghemi` in {}, which writes it to target/staticlib,", top.display());
         eprintln!("or name the folder that has it by the environment variable SORGHEMI_LIB.");
         std::process::exit(1);
     }
