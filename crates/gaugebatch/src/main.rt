@@ -53,9 +53,11 @@ fn say_why(rt: &HostRuntime, what: &str, error: io::Error) -> io::Result<()> {
     eprintln!(rt; "gaugebatch: {what}: {words}")
 }
 
-/// The same; with standard error closed too nothing can be said.
+/// The same, without the reason where there is no memory for its words. With standard error closed too nothing can be said.
 fn complain(rt: &HostRuntime, what: &str, error: io::Error) {
-    let _ = say_why(rt, what, error);
+    if say_why(rt, what, error).is_err() {
+        let _ = eprintln!(rt; "gaugebatch: {what}");
+    }
 }
 
 /// R154: writes all of the text to standard output, or says why it could not.
