@@ -63,7 +63,8 @@ fn open_in(set: JobSet, committed: &[u8; 128]) -> JobSet
             return open;
         };
         let j = job as usize;
-        if committed[j] == 0 {
+        let is_open = committed[j] == 0;
+        if is_open {
             open = open.with(j);
         }
         from = j + 1;

@@ -6,7 +6,7 @@ use Rattle.jobset.specs.JobSet.{least_of}
 use Rattle.jobset.specs.SizeLaws.{next_has}
 use Rattle.bypass.specs.BypassLaws.{open_found, settled_passed, open_all}
 use Rattle.bypass.proofs.open_in.Goals as goal
-use Rattle.bypass.proofs.open_in.Goals.{else-committed-j-eq0, then-committed-j-eq0}
+use Rattle.bypass.proofs.open_in.Goals.{else-is_open, then-is_open}
 
 pub loop-job-init : goal.loop-job-init
 loop-job-init c = (omega arith, c.empty-open.ensures ∙ sym (set_none _))
@@ -39,8 +39,8 @@ loop-job-preserved c =
     let a = c.args in
     let next = sym c.next-least.ensures ∙ ap least_of c.in-Job.is in (
       omega (arith, (next_has _ _ _ next).1),
-      (elim c.if-committed-j-eq0.branch [
-        | then-committed-j-eq0 h ↦ h.open-is ∙ (h.with-open.ensures ∙ open_found a.set a.committed.now l.from l.invariant.1 _ next h.if-committed-j-eq0.true)
-        | else-committed-j-eq0 h ↦ h.open-is ∙ settled_passed a.set a.committed.now l.from l.invariant.1 _ next h.if-committed-j-eq0.false
+      (elim c.if-is_open.branch [
+        | then-is_open h ↦ h.open-is ∙ (h.with-open.ensures ∙ open_found a.set a.committed.now l.from l.invariant.1 _ next h.if-is_open.true)
+        | else-is_open h ↦ h.open-is ∙ settled_passed a.set a.committed.now l.from l.invariant.1 _ next h.if-is_open.false
       ]),
     )
