@@ -1,5 +1,5 @@
 -- Whether a job is refused, told by its kind: a kind other than 0 has 1, 2 or 3 accesses of known modes.
-use Rattle.std.specs.Prelude.{ℕ, zero, suc, ◌<◌, ◌≤◌, Bool, not, ◌&&◌, ◌||◌, ◌≡◌, [], ◌∷◌, eqb, leb, ltb, length, get_or}
+use Rattle.std.specs.Prelude.{ℕ, cond, Option, Some, None, zero, suc, ◌<◌, ◌≤◌, Bool, not, ◌&&◌, ◌||◌, ◌≡◌, [], ◌∷◌, eqb, leb, ltb, length, get_or}
 use Rattle.std.proofs.Common.{arith, sym, ap, ◌∙◌, eqb-true, le-ltb}
 use Rattle.std.proofs.Math.Bool.{true, false}
 use Rattle.std.proofs.Math.Path.{refl}
@@ -17,10 +17,18 @@ use Rattle.admission.specs.declared.Shape.{Shape}
 abbrev pub access_out : Access → ℕ → ℕ → Bool
 access_out access n m = not (eqb access.mode m) || leb n access.cell
 
--- What a kind asks of its jobs; no accesses are told of kind 0, and of a kind that there is not.
-abbrev pub shape_of : ℕ → Shape
+-- What a kind asks of its jobs, where it does: not kind 0, and no kind that there is not.
+abbrev pub shape_of : ℕ → Option Shape
 shape_of kind =
-    record { count = length (kind_modes kind); first = get_or (kind_modes kind) 0 0; second = get_or (kind_modes kind) 1 0 }
+    cond (eqb (length (kind_modes kind)) 0) None
+    (Some (record { count = length (kind_modes kind); first = get_or (kind_modes kind) 0 0; second = get_or (kind_modes kind) 1 0 }))
+
+-- The job has as many accesses as the shape, of the same modes.
+unfoldable pub has_shape : Job → Shape → Bool
+has_shape job shape =
+    eqb job.arity shape.count
+    && (eqb (access_at job 0).mode shape.first
+    && ((ltb shape.count 2 || eqb (access_at job 1).mode shape.second) && (ltb shape.count 3 || eqb (access_at job 2).mode 0)))
 
 -- The job has another number of accesses, an access that is out, or a cell twice: as far as the shape has accesses.
 unfoldable pub shape_refused : Job → ℕ → Shape → Bool
@@ -184,9 +192,9 @@ module _ (job : Job) (n : ℕ) where
       (λ f. rw f (another_arity job n)))
 
   -- So the shape that the kind asks for tells it.
-  pub shape_law : ((shape_of job.kind).count ≡ 0 → ⊥) → Refused ≡ shape_refused job n (shape_of job.kind)
+  pub shape_law : (shape : Shape) → shape_of job.kind ≡ Some shape → Refused ≡ shape_refused job n shape
   unfolding shape_refused
-  shape_law some = cases job.kind refl some
+  shape_law shape told = cases job.kind refl told
     where
       none : (a b : Bool) → (a || (b || false)) ≡ (a || b)
       none true b = refl
@@ -199,16 +207,65 @@ module _ (job : Job) (n : ℕ) where
       later false true z = refl
       later false false z = refl
 
-      cases : (kind : ℕ) → job.kind ≡ kind → ((shape_of kind).count ≡ 0 → ⊥) → Refused ≡ shape_refused job n (shape_of kind)
-      cases zero e some = absurd (some refl)
-      cases (suc zero) e some = one_law 1 (omega arith) (rw e) ∙ sym (none (other 1) (out 0 1))
-      cases (suc (suc zero)) e some = one_law 1 (omega arith) (rw e) ∙ sym (none (other 1) (out 0 1))
-      cases (suc (suc (suc zero))) e some =
-          two_law 2 0 (omega arith) (omega arith) (rw e) ∙ sym (ap (λ (x : Bool). other 2 || (out 0 2 || x)) (none (out 1 0) (cell_before job 1 0)))
-      cases (suc (suc (suc (suc zero)))) e some = one_law 2 (omega arith) (rw e) ∙ sym (none (other 1) (out 0 2))
-      cases (suc (suc (suc (suc (suc zero))))) e some =
-          three_law 1 0 0 (omega arith) (omega arith) (omega arith) (rw e)
-          ∙ ap (λ (x : Bool). other 3 || (out 0 1 || (out 1 0 || x))) (later (cell_before job 1 0) (out 2 0) (cell_before job 2 0 || cell_before job 2 1))
-      cases (suc (suc (suc (suc (suc (suc zero)))))) e some =
-          two_law 2 2 (omega arith) (omega arith) (rw e) ∙ sym (ap (λ (x : Bool). other 2 || (out 0 2 || x)) (none (out 1 2) (cell_before job 1 0)))
-      cases (suc (suc (suc (suc (suc (suc (suc kind))))))) e some = absurd (some refl)
+      asked : {a b : Shape} → Some a ≡ Some b → Refused ≡ shape_refused job n a → Refused ≡ shape_refused job n b
+      asked {a} {b} e law = let same : a ≡ b = cc in law ∙ ap (shape_refused job n) same
+
+      cases : (kind : ℕ) → job.kind ≡ kind → shape_of kind ≡ Some shape → Refused ≡ shape_refused job n shape
+      cases zero e told = cc
+      cases (suc zero) e told = asked told (one_law 1 (omega arith) (rw e) ∙ sym (none (other 1) (out 0 1)))
+      cases (suc (suc zero)) e told = asked told (one_law 1 (omega arith) (rw e) ∙ sym (none (other 1) (out 0 1)))
+      cases (suc (suc (suc zero))) e told =
+          asked told (two_law 2 0 (omega arith) (omega arith) (rw e) ∙ sym (ap (λ (x : Bool). other 2 || (out 0 2 || x)) (none (out 1 0) (cell_before job 1 0))))
+      cases (suc (suc (suc (suc zero)))) e told = asked told (one_law 2 (omega arith) (rw e) ∙ sym (none (other 1) (out 0 2)))
+      cases (suc (suc (suc (suc (suc zero))))) e told =
+          asked told
+          (three_law 1 0 0 (omega arith) (omega arith) (omega arith) (rw e)
+          ∙ ap (λ (x : Bool). other 3 || (out 0 1 || (out 1 0 || x))) (later (cell_before job 1 0) (out 2 0) (cell_before job 2 0 || cell_before job 2 1)))
+      cases (suc (suc (suc (suc (suc (suc zero)))))) e told =
+          asked told (two_law 2 2 (omega arith) (omega arith) (rw e) ∙ sym (ap (λ (x : Bool). other 2 || (out 0 2 || x)) (none (out 1 2) (cell_before job 1 0))))
+      cases (suc (suc (suc (suc (suc (suc (suc kind))))))) e told = cc
+
+-- And whether the job's modes are the kind's.
+module _ (job : Job) where
+  abbrev at : ℕ → ℕ → Bool
+  at i mode = eqb (access_at job i).mode mode
+
+  one_fits : (a s : Bool) → (a && not (not s || false)) ≡ (a && (s && true))
+  one_fits true true = refl
+  one_fits true false = refl
+  one_fits false s = refl
+
+  two_fit : (a s t : Bool) → (a && not (not t || (not s || false))) ≡ (a && (s && (t && true)))
+  two_fit true true true = refl
+  two_fit true true false = refl
+  two_fit true false true = refl
+  two_fit true false false = refl
+  two_fit false s t = refl
+
+  three_fit : (a s t u : Bool) → (a && not (not u || (not t || (not s || false)))) ≡ (a && (s && (t && u)))
+  three_fit true true true true = refl
+  three_fit true true true false = refl
+  three_fit true true false true = refl
+  three_fit true true false false = refl
+  three_fit true false true true = refl
+  three_fit true false true false = refl
+  three_fit true false false true = refl
+  three_fit true false false false = refl
+  three_fit false s t u = refl
+
+  pub fits_law : (shape : Shape) → shape_of job.kind ≡ Some shape → kind_fits job ≡ has_shape job shape
+  unfolding has_shape any_below
+  fits_law shape told = cases job.kind refl told
+    where
+      asked : {a b : Shape} → Some a ≡ Some b → kind_fits job ≡ has_shape job a → kind_fits job ≡ has_shape job b
+      asked {a} {b} e law = let same : a ≡ b = cc in law ∙ ap (has_shape job) same
+
+      cases : (kind : ℕ) → job.kind ≡ kind → shape_of kind ≡ Some shape → kind_fits job ≡ has_shape job shape
+      cases zero e told = cc
+      cases (suc zero) e told = asked told (rw e (one_fits (eqb job.arity 1) (at 0 1)))
+      cases (suc (suc zero)) e told = asked told (rw e (one_fits (eqb job.arity 1) (at 0 1)))
+      cases (suc (suc (suc zero))) e told = asked told (rw e (two_fit (eqb job.arity 2) (at 0 2) (at 1 0)))
+      cases (suc (suc (suc (suc zero)))) e told = asked told (rw e (one_fits (eqb job.arity 1) (at 0 2)))
+      cases (suc (suc (suc (suc (suc zero))))) e told = asked told (rw e (three_fit (eqb job.arity 3) (at 0 1) (at 1 0) (at 2 0)))
+      cases (suc (suc (suc (suc (suc (suc zero)))))) e told = asked told (rw e (two_fit (eqb job.arity 2) (at 0 2) (at 1 2)))
+      cases (suc (suc (suc (suc (suc (suc (suc kind))))))) e told = cc

@@ -1,10 +1,11 @@
 -- R152: what the program writes, for every input.
-use Rattle.std.specs.Prelude.{ℕ, zero, suc, cond, List, [], ◌∷◌, ◌++◌, eqb, ltb, length, drop}
+use Rattle.std.specs.Prelude.{ℕ, zero, suc, Option, Some, None, cond, List, [], ◌∷◌, ◌++◌, ltb, length, drop}
 use Rattle.engine.specs.Ask.{asked_cell, asked_job, asked_batch}
 use Rattle.engine.specs.declared.Batch.{Batch}
 use Rattle.text.specs.Pieces.{line_feed, pieces}
 use Rattle.render.specs.Text.{triple_line, height_line, fault_lines}
 use Rattle.plan.specs.Plan.{plan_of}
+use Rattle.plan.specs.declared.Fault.{Fault}
 use Rattle.plan.specs.declared.Reading.{Reading}
 use Rattle.stepping.specs.Stepping.{steps_text, batch_after_lines}
 
@@ -50,9 +51,12 @@ parts_text b lines =
 
 -- R150: the first faulty line decides before any step, and its number and line are then all that is written.
 -- Without a fault the steps are those after the line `step job`.
+abbrev pub text_of : Option Fault → Reading → List (List ℕ) → List ℕ
+text_of None r lines = parts_text r.batch (drop r.step_line lines)
+text_of (Some fault) r lines = fault_lines fault.number fault.line
+
 unfoldable pub reading_text : Reading → List (List ℕ) → List ℕ
-reading_text r lines =
-    cond (eqb r.fault 0) (parts_text r.batch (drop r.step_line lines)) (fault_lines r.fault r.line)
+reading_text r lines = text_of r.fault r lines
 
 -- R140: the whole answer, for input of any bytes. Over 65,536 of them it is 22 on line 0 (R122).
 unfoldable pub output_of : List ℕ → List ℕ

@@ -1,7 +1,6 @@
 -- R79: what is told of a job's guess: the jobs that it looked past, and the open ones among them, for which it still waits.
 -- (Looked past is `bypassed` here.)
-use Rattle.std.specs.Prelude.{ℕ, Bool, true, false, not, cond, ◌&&◌, List, eqb, get_or}
-use Rattle.std.proofs.Math.Option.{Option, none, some}
+use Rattle.std.specs.Prelude.{ℕ, Bool, true, false, not, cond, ◌&&◌, List, eqb, get_or, Option, None, Some}
 use Rattle.dependence.specs.Ready.{is_committed}
 use Rattle.jobset.specs.declared.JobSet.{JobSet}
 use Rattle.jobset.specs.JobSet.{empty_set, has_job, count_jobs, least_job}
@@ -18,8 +17,8 @@ no_jobs = record { size = 0; present = false; lowest = 0 }
 
 -- R78: a size and a lowest job, 0 where there is none.
 unfoldable pub shown_set : ℕ → Option ℕ → SetAnswer
-shown_set size (some j) = record { size = size; present = true; lowest = j }
-shown_set size none = record { size = size; present = false; lowest = 0 }
+shown_set size (Some j) = record { size = size; present = true; lowest = j }
+shown_set size None = record { size = size; present = false; lowest = 0 }
 
 -- What is told of the jobs that satisfy p: how many there are, and the least of them.
 abbrev pub told_of : (ℕ → Bool) → SetAnswer

@@ -1,7 +1,6 @@
 -- Laws of what is told of a guess, for the claims above.
-use Rattle.std.specs.Prelude.{ℕ, ◌+◌, ◌<◌, ◌≤◌, Bool, true, false, List, ◌≢◌, ◌≡◌, refl, ltb, get_or}
+use Rattle.std.specs.Prelude.{ℕ, ◌+◌, ◌<◌, ◌≤◌, Bool, true, false, List, ◌≢◌, ◌≡◌, refl, ltb, get_or, None, Some}
 use Rattle.std.proofs.Common.{arith, sym, ◌∙◌, ltb-false, le-leb, ne_eqb}
-use Rattle.std.proofs.Math.Option.{none, some}
 use Rattle.std.proofs.lemmas.Bool.{lt-leb}
 use Rattle.laws.specs.FoldLaws.{count_none}
 use Rattle.laws.specs.LeastLaws.{least_none}
@@ -16,6 +15,7 @@ use Rattle.walk.specs.SourceLaws.{set_in, set_out, set_gap, has_set_of}
 use Rattle.engine.specs.declared.Batch.{Batch}
 use Rattle.engine.specs.Record.{run_at}
 use Rattle.engine.specs.Form.{in_form}
+use Rattle.engine.specs.FormLaws.{form_counts}
 use Rattle.engine.specs.Ask.{job_ask_refusal}
 use Rattle.bypass.specs.Bypass.{no_jobs, shown_set, told_of, bypassed_in, open_at, told_run, refused_speculation, asked_speculation}
 
@@ -35,6 +35,10 @@ has_open set committed i =
     (λ t. rw t)
     (λ f. rw (f, has_beyond set i (ltb-false i 128 f)))
 
+-- So the same is told of them as a set.
+pub told_open : (set : JobSet) (committed : List ℕ) → told_of (has_job (open_in set committed)) ≡ told_of (open_at set committed)
+told_open set committed = told_same (has_job (open_in set committed)) (open_at set committed) (has_open set committed)
+
 -- The walk over the jobs of a set, from one to the next: `found` are the open ones before job `from`.
 
 module _ (set : JobSet) (committed : List ℕ) (from : ℕ) {found : JobSet} (so_far : found ≡ set_of from (open_at set committed)) where
@@ -43,20 +47,20 @@ module _ (set : JobSet) (committed : List ℕ) (from : ℕ) {found : JobSet} (so
   skipped j h gap = so_far ∙ sym (set_gap from j (open_at set committed) h (λ i a b. rw (gap i a b)))
 
   -- the next one is open
-  pub open_found : (j : ℕ) → next_of set from ≡ some j → get_or committed j 0 ≡ 0 → with_job found j ≡ set_of (j + 1) (open_at set committed)
+  pub open_found : (j : ℕ) → next_of set from ≡ Some j → get_or committed j 0 ≡ 0 → with_job found j ≡ set_of (j + 1) (open_at set committed)
   open_found j e zero =
       let next = next_has set from j e in
       set_in j (open_at set committed) (skipped j next.0 (λ i a b. next_gap set from j i e a b)) (rw (next.2, zero)) refl
 
   -- it is settled
-  pub settled_passed : (j : ℕ) → next_of set from ≡ some j → get_or committed j 0 ≢ 0 → found ≡ set_of (j + 1) (open_at set committed)
+  pub settled_passed : (j : ℕ) → next_of set from ≡ Some j → get_or committed j 0 ≢ 0 → found ≡ set_of (j + 1) (open_at set committed)
   settled_passed j e nonzero =
       let next = next_has set from j e in
       set_out j (open_at set committed) (skipped j next.0 (λ i a b. next_gap set from j i e a b))
       (rw (next.2, ne_eqb (get_or committed j 0) 0 nonzero)) refl
 
   -- there is none
-  pub open_all : from ≤ 128 → next_of set from ≡ none → found ≡ open_in set committed
+  pub open_all : from ≤ 128 → next_of set from ≡ None → found ≡ open_in set committed
   open_all h e = skipped 128 h (λ i a b. next_none set from i e a)
 
 -- A guess that was never started is not told of, nor is one that is thrown away, whatever the run holds.
@@ -85,3 +89,10 @@ asked_beyond b j form h = rw (form, le-leb b.job_count j h)
 pub asked_out : (b : Batch) (j : ℕ) → in_form b ≡ false → asked_speculation b j ≡ refused_speculation 32
 unfolding asked_speculation job_ask_refusal
 asked_out b j out = rw out
+
+-- A record in form holds at most 128 jobs.
+pub few_jobs : (b : Batch) → in_form b ≡ true → b.job_count ≤ 128
+few_jobs b e = (form_counts b e).few_jobs
+
+-- What asking comes to.
+pub ruleset asking = (asked_held, asked_beyond, asked_out, few_jobs)

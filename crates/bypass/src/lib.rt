@@ -2,18 +2,21 @@
 //! are not committed.
 #![tactic(auto)]
 
-ghost use Rattle.std.specs.Prelude.{◌≡◌, length};
+ghost use Rattle.std.specs.Prelude.{◌≡◌};
 ghost use Rattle.jobset.specs.JobSet.{has_job};
+ghost use Rattle.refusal.specs.Refusal.{number_of};
 ghost use Rattle.bypass.specs.Bypass.{told_of, told_run, refused_speculation, asked_speculation};
 ghost use Rattle.bypass.specs.BypassLaws.{open_in};
 
 use engine::Batch;
 use engine::speculation::is_live;
-use jobset::{JobSet, Least};
+use jobset::JobSet;
+use refusal::Refusal;
 
 /// R78: what is told of a set of jobs: its size, whether it has a lowest job, and that job, 0 where there is none.
+// C interface: an exported function cannot answer with an `Option`.
 #[repr(C)]
-#[derive(Clone, Copy)]
+#[derive(Clone, Copy, PartialEq, Eq, Debug, Default)]
 pub struct SetAnswer {
     pub size: u8,
     pub present: bool,
@@ -23,45 +26,35 @@ pub struct SetAnswer {
 /// What asking a job's speculative run answers: the jobs that it bypassed, and the open ones among them. All are 0 where it
 /// is refused.
 #[repr(C)]
-#[derive(Clone, Copy)]
+#[derive(Clone, Copy, PartialEq, Eq, Debug, Default)]
 pub struct SpeculationAnswer {
     pub refusal: u8,
     pub bypassed: SetAnswer,
     pub open: SetAnswer,
 }
 
-/// R78: the size of the set and its lowest job.
-fn told(set: JobSet) -> SetAnswer
-    ensures { result ≡ told_of (has_job set) }
-{
-    let size = set.size();
-    let least = set.lowest();
-    match least {
-        Least::Job(lowest) => SetAnswer {
-            size,
-            present: true,
-            lowest,
-        },
-        Least::Absent => SetAnswer {
-            size,
-            present: false,
-            lowest: 0,
-        },
+impl From<JobSet> for SetAnswer {
+    ghost from_gives = { λ set answer. answer ≡ told_of (has_job set) };
+
+    /// R78: the size of the set and its lowest job.
+    #[tactic(auto, unfolding(crate::specs::Bypass::shown_set, jobset::specs::JobSet::size_of, jobset::specs::JobSet::lowest_of))]
+    fn from(set: JobSet) -> SetAnswer {
+        let lowest = set.lowest();
+        SetAnswer {
+            size: set.size(),
+            present: lowest.is_some(),
+            lowest: lowest.unwrap_or(0),
+        }
     }
 }
 
 /// The jobs of the set that are not committed. The walk goes from one job of the set to the next.
 fn open_in(set: JobSet, committed: &[u8; 128]) -> JobSet
-    requires { length committed.now ≡ 128 }
     ensures { result ≡ open_in set committed.now }
 {
     let mut open = JobSet::empty();
     let mut from: usize = 0;
-    loop {
-        let least = set.next(from);
-        let Least::Job(job) = least else {
-            return open;
-        };
+    while let Some(job) = set.next(from) {
         let j = job as usize;
         let is_open = committed[j] == 0;
         if is_open {
@@ -69,56 +62,51 @@ fn open_in(set: JobSet, committed: &[u8; 128]) -> JobSet
         }
         from = j + 1;
     }
+    open
 }
 
 /// What is told of a run that bypassed the jobs, speculative in the phase.
+#[tactic(auto, using(crate::specs::BypassLaws::told_open))]
 fn told_run(bypassed: JobSet, phase: u8, committed: &[u8; 128]) -> SpeculationAnswer
-    requires { length committed.now ≡ 128 }
     ensures { result ≡ told_run bypassed phase committed.now }
 {
-    let mut known = JobSet::empty();
-    if is_live(phase) {
-        known = bypassed;
-    }
+    let known = if is_live(phase) {
+        bypassed
+    } else {
+        JobSet::empty()
+    };
     let open = open_in(known, committed);
     SpeculationAnswer {
         refusal: 0,
-        bypassed: told(known),
-        open: told(open),
+        bypassed: known.into(),
+        open: open.into(),
+    }
+}
+
+impl From<Refusal> for SpeculationAnswer {
+    ghost from_gives = { λ why answer. answer ≡ refused_speculation (number_of why) };
+
+    /// The answer of a refused call.
+    fn from(why: Refusal) -> SpeculationAnswer {
+        SpeculationAnswer {
+            refusal: u8::from(why),
+            ..SpeculationAnswer::default()
+        }
     }
 }
 
 impl SpeculationAnswer {
-    /// The answer of a refused call.
-    fn refused(refusal: u8) -> SpeculationAnswer
-        ensures { result ≡ refused_speculation refusal }
-    {
-        let none = SetAnswer {
-            size: 0,
-            present: false,
-            lowest: 0,
-        };
-        SpeculationAnswer {
-            refusal,
-            bypassed: none,
-            open: none,
-        }
-    }
-
     /// R79: what the speculative run of job `j` bypassed. Refused with 11 or 32.
+    #[tactic(auto, using(crate::specs::BypassLaws::asking))]
     pub fn of(batch: Batch, j: usize) -> SpeculationAnswer
         ensures { result ≡ asked_speculation batch j }
     {
-        if batch.is_in_form() {
-            if (batch.job_count as usize) <= j {
-                return SpeculationAnswer::refused(11);
-            }
-            let run = batch.runs[j];
-            let bypassed = run.bypassed;
-            let phase = batch.phase[j];
-            let committed = batch.committed;
-            return told_run(bypassed, phase, &committed);
+        if !batch.is_in_form() {
+            return Refusal::OutOfForm.into();
         }
-        SpeculationAnswer::refused(32)
+        if (batch.job_count as usize) <= j {
+            return Refusal::NoSuchJob.into();
+        }
+        told_run(batch.runs[j].bypassed, batch.phase[j], &batch.committed)
     }
 }

@@ -8,7 +8,7 @@ use Rattle.std.specs.Prelude.{Bool, true, false, cond, ◌&&◌, ◌||◌, ◌�
 use Rattle.std.proofs.Math.Bool.{and_assoc, and_comm}
 use Rattle.std.proofs.Math.Path.{refl}
 use Rattle.std.proofs.Math.Dec.{lit<}
-use borrow.Author.Tests.{eqb-true, eq-eqb, ne_eqb, ltb-true, ltb-false, le-leb}
+use borrow.Author.Tests.{eqb-true, eq-eqb, ne_eqb, ltb-true, ltb-false, le-leb, lt-leb}
 use Rattle.laws.specs.Search.{any_below}
 use Rattle.laws.specs.SearchLaws.{any_same, any_and, any_swap, any_found, any_absent, if-or, and_false, eqb_comm}
 use Rattle.laws.specs.Fold.{fold_below}
@@ -20,7 +20,7 @@ use Rattle.jobset.specs.JobSet.{bit, with_bit}
 use Rattle.jobset.specs.Bits.{bit_zero, bit_with, with_fits}
 use Rattle.rules.specs.Walk.{access_is, writes, looks_back}
 use Rattle.cellset.specs.declared.Cells.{Cells}
-use Rattle.cellset.specs.Cells.{word_with, word_of, any_mode, surely_writes, is_unpredicted, no_cells, with_place, cells_of}
+use Rattle.cellset.specs.Cells.{word_with, word_of, any_mode, surely_writes, is_unpredicted, no_cells, with_place, with_access, cells_of}
 
 -- Place i of the job is in use, its access satisfies p, and the cell is its.
 abbrev pub uses_at : (Access → Bool) → Job → ℕ → ℕ → Bool
@@ -147,6 +147,10 @@ module _ (job : Job) where
   pub cells_more : (n : ℕ) → with_place job n (cells_below n) ≡ cells_below (n + 1)
   unfolding fold_below
   cells_more n = rw add-one
+
+  -- A place in use adds its access.
+  pub cells_next : (n : ℕ) → n < job.arity → with_access (access_at job n) (cells_below n) ≡ cells_below (n + 1)
+  cells_next n h = rw (lt-leb job.arity n h) at (cells_more n)
 
   unused : (p : Access → Bool) (k : ℕ) → fold_below (job.arity + k) (word_with p job) 0 ≡ fold_below job.arity (word_with p job) 0
   unfolding fold_below

@@ -42,6 +42,19 @@ with_place job i cells =
       back = word_with is_unpredicted job i cells.back;
     }
 
+-- The four words with the cell of an access, if they have a bit for it.
+abbrev pub cell_with : (Access → Bool) → Access → ℕ → ℕ
+cell_with p access word = cond (ltb access.cell 64 && p access) (with_bit word access.cell) word
+
+abbrev pub with_access : Access → Cells → Cells
+with_access access cells =
+    record {
+      named = cell_with any_mode access cells.named;
+      written = cell_with may_write access cells.written;
+      sure = cell_with surely_writes access cells.sure;
+      back = cell_with is_unpredicted access cells.back;
+    }
+
 abbrev pub cells_of : Job → Cells
 cells_of job =
     record {

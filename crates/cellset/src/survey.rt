@@ -1,7 +1,7 @@
 //! One pass over the jobs that tells which step is allowed on each, as a rank: the jobs and their states as columns of numbers.
 
-ghost use Rattle.std.specs.Prelude.{◌≡◌, ◌≤◌, length};
-ghost use Rattle.cellset.specs.Survey.{none_earlier, is_ready_after, misses_source, after_job};
+ghost use Rattle.std.specs.Prelude.{◌≡◌, ◌≤◌};
+ghost use Rattle.cellset.specs.Survey.{is_ready_after, misses_source, after_job};
 ghost use Rattle.cellset.specs.Survey.{may_speculate, own_rank, rank_of, judged_rank};
 ghost use Rattle.cellset.specs.Survey.{columns, Surveyed};
 
@@ -9,7 +9,7 @@ use crate::Cells;
 
 /// Of the jobs passed that are not committed: the cells that they name, those that they may write, and those whose nearest
 /// sure writer among them has no stored report.
-#[derive(Clone, Copy)]
+#[derive(Clone, Copy, Default)]
 struct Earlier {
     named: u64,
     written: u64,
@@ -17,17 +17,6 @@ struct Earlier {
 }
 
 impl Earlier {
-    /// Before the first job.
-    fn none() -> Earlier
-        ensures { result ≡ none_earlier }
-    {
-        Earlier {
-            named: 0,
-            written: 0,
-            unusable: 0,
-        }
-    }
-
     /// Whether a job with these cells conflicts with none of the earlier ones.
     fn admits(self, cells: Cells) -> bool
         ensures { result ≡ is_ready_after self cells }
@@ -46,20 +35,15 @@ impl Earlier {
     fn with(self, cells: Cells, phase: u8) -> Earlier
         ensures { result ≡ after_job self cells phase }
     {
-        let named = self.named | cells.named;
-        let written = self.written | cells.written;
         let either = self.unusable | cells.sure;
-        if phase == 2 {
-            return Earlier {
-                named,
-                written,
-                unusable: either ^ cells.sure,
-            };
-        }
         Earlier {
-            named,
-            written,
-            unusable: either,
+            named: self.named | cells.named,
+            written: self.written | cells.written,
+            unusable: if phase == 2 {
+                either ^ cells.sure
+            } else {
+                either
+            },
         }
     }
 }
@@ -68,26 +52,14 @@ impl Earlier {
 fn own_rank(running: u8) -> u8
     ensures { result ≡ own_rank running }
 {
-    if running == 0 {
-        return 2;
-    }
-    0
+    if running == 0 { 2 } else { 0 }
 }
 
 /// Whether a speculative run of a job that is not ready may be started: no run of it ever was, and no source is missing.
 fn may_speculate(on: bool, running: u8, phase: u8, missing: bool) -> bool
     ensures { result ≡ may_speculate on running phase missing }
 {
-    if on {
-        if running != 0 {
-            return false;
-        }
-        if phase != 0 {
-            return false;
-        }
-        return !missing;
-    }
-    false
+    on && running == 0 && phase == 0 && !missing
 }
 
 /// The rank of a job that is not committed: 2 where step 0 is allowed on it, 1 where step 1 is, 0 where none is. It is 4 of a
@@ -96,18 +68,16 @@ fn rank(on: bool, running: u8, phase: u8, ready: bool, missing: bool) -> u8
     ensures { result ≡ rank_of on running phase ready missing }
 {
     if ready {
-        if phase == 1 {
-            return 4;
+        if phase == 1 || phase == 2 {
+            4
+        } else {
+            own_rank(running)
         }
-        if phase == 2 {
-            return 4;
-        }
-        return own_rank(running);
+    } else if may_speculate(on, running, phase, missing) {
+        1
+    } else {
+        0
     }
-    if may_speculate(on, running, phase, missing) {
-        return 1;
-    }
-    0
 }
 
 /// The rank of a job that is to be judged, by whether a value handed to its speculative run is stale: 3 where step 4 is allowed
@@ -116,16 +86,19 @@ pub fn judged_rank(running: u8, phase: u8, stale: bool) -> u8
     ensures { result ≡ judged_rank running phase stale }
 {
     if stale {
-        return own_rank(running);
+        own_rank(running)
+    } else if phase == 2 {
+        3
+    } else {
+        0
     }
-    if phase == 2 {
-        return 3;
-    }
-    0
 }
 
+// Ranks, phases and runs are bytes, and jobs are gone through by number: what may not change are `survey`, whose columns lie
+// side by side in the caller, and `judged_rank`; a zip of nine columns is no plainer.
+
 /// Fills `ranks` for the first `n` jobs with the rank of each, 0 of a committed one. The words are those of the jobs' cells, and
-/// read for jobs that are not committed alone. (That there are 128 places has to be said of an array behind a reference.)
+/// read for jobs that are not committed alone.
 pub fn survey<'a>(
     on: bool,
     n: usize,
@@ -138,14 +111,14 @@ pub fn survey<'a>(
     phases: &'a [u8; 128],
     ranks: &mut [u8; 128],
 )
-    requires { (n ≤ 128) × (length ranks.old ≡ 128) }
+    requires { n ≤ 128 }
     ensures { Surveyed on (columns named.now written.now sure.now back.now committed.now running.now phases.now) n ranks.new }
 {
-    let mut earlier = Earlier::none();
-    let mut j: usize = 0;
-    while j < n {
-        let mut told: u8 = 0;
-        if committed[j] == 0 {
+    let mut earlier = Earlier::default();
+    for j in 0..n {
+        let mut told = 0;
+        let open = committed[j] == 0;
+        if open {
             let cells = Cells {
                 named: named[j],
                 written: written[j],
@@ -156,10 +129,8 @@ pub fn survey<'a>(
             let ready = earlier.admits(cells);
             let missing = earlier.withholds(cells);
             told = rank(on, running[j], phase, ready, missing);
-            let next = earlier.with(cells, phase);
-            earlier = next;
+            earlier = earlier.with(cells, phase);
         }
         ranks[j] = told;
-        j += 1;
     }
 }

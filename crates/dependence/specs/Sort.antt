@@ -1,7 +1,9 @@
 -- R24: the sort of the conflict of an earlier and a later job.
-use Rattle.std.specs.Prelude.{ℕ, Bool, cond, not, ◌&&◌, eqb}
+use Rattle.std.specs.Prelude.{ℕ, Bool, cond, not, ◌&&◌, eqb, Option, Some, None}
 use Rattle.laws.specs.Search.{any_below}
 use Rattle.dependence.specs.declared.Access.{Access}
+use Rattle.dependence.specs.declared.Dependence.{Dependence}
+use Rattle.dependence.specs.declared.Dependence.TheVariants as sort
 use Rattle.dependence.specs.declared.Job.{Job}
 use Rattle.dependence.specs.Job.{is_read, in_use, access_at}
 
@@ -44,3 +46,9 @@ sort_by flow overwrite = cond flow 1 (cond overwrite 2 0)
 
 unfoldable pub sort_of : Job → Job → ℕ
 sort_of earlier later = sort_by (flows earlier later) (overwrites earlier later)
+
+-- The number of a sort that the code names.
+abbrev pub number_of : Option Dependence → ℕ
+number_of None = 0
+number_of (Some sort.Flow) = 1
+number_of (Some sort.Anti) = 2

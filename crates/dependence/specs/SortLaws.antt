@@ -1,16 +1,19 @@
 -- Laws of the sorts of conflict, for the layers above: they use these and never the definition's text.
-use Rattle.std.specs.Prelude.{ℕ, ◌<◌, Bool, ◌&&◌, ◌||◌, ◌≡◌}
+use Rattle.std.specs.Prelude.{ℕ, ◌<◌, Bool, ◌&&◌, ◌||◌, ◌≡◌, Option, Some, None}
+use Rattle.std.specs.Option.{is_some}
 use Rattle.std.proofs.Math.Bool.{true, false, not, and_assoc}
 use Rattle.std.proofs.Math.Path.{refl, sym}
-use Rattle.std.proofs.Common.{◌∙◌, eqb-true, eq-eqb}
+use Rattle.std.proofs.Common.{ap, ◌∙◌, eqb-true, eq-eqb}
 use Rattle.std.proofs.Math.Dec.{eqb}
 use Rattle.laws.specs.SearchLaws.{any_same, any_or, any_find, any_found, if-or, clash, and_left, and_right, and_false}
 use Rattle.dependence.specs.declared.Access.{Access}
+use Rattle.dependence.specs.declared.Dependence.{Dependence}
+use Rattle.dependence.specs.declared.Dependence.TheVariants as sort
 use Rattle.dependence.specs.declared.Job.{Job}
 use Rattle.dependence.specs.Job.{is_read, in_use, access_at}
 use Rattle.dependence.specs.Conflict.{touches_at, touches, conflict_at, conflicts}
 use Rattle.dependence.specs.ConflictLaws.{conflicts_symmetric}
-use Rattle.dependence.specs.Sort.{may_write, names_at, names_cell, may_write_at, may_write_cell, flows_at, flows, overwrites_at, overwrites, sort_by, sort_of}
+use Rattle.dependence.specs.Sort.{may_write, names_at, names_cell, may_write_at, may_write_cell, flows_at, flows, overwrites_at, overwrites, sort_by, sort_of, number_of}
 
 -- An access that may write conflicts with every access to its cell,
 pub touches_named : (access : Access) (job : Job) → is_read access.mode ≡ false → touches access job ≡ names_cell access.cell job
@@ -94,6 +97,15 @@ module _ (earlier later : Job) where
       cases true t = refl
       cases false true = refl
       cases false false = refl
+
+-- The code names a sort just where the two conflict.
+pub named_conflicts : (found : Option Dependence) (earlier later : Job) → number_of found ≡ sort_of earlier later → is_some found ≡ conflicts earlier later
+named_conflicts found earlier later e = named found ∙ ap (λ n. not (eqb n 0)) e ∙ sort_conflicts earlier later
+  where
+    named : (found : Option Dependence) → is_some found ≡ not (eqb (number_of found) 0)
+    named None = refl
+    named (Some sort.Flow) = refl
+    named (Some sort.Anti) = refl
 
 -- What a conflict of sort 1 is made of: a used place of each job, one cell, and the earlier job may write it.
 pub record Flow (earlier later : Job) : Type 0 where

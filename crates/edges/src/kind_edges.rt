@@ -1,139 +1,136 @@
 //! The kinds at the ends of the 32-bit range and where their tests turn.
 
-use crate::lines;
+use kinds::{FLOOR, MEAN, PAIR, SET, SHIFT, SPIKE, is_above, is_below, is_spike, mean, shift};
+use say::{Height, Values, yes_no};
+use std::io;
 
-const LOWEST: i32 = -2147483648;
+const LOWEST: i32 = i32::MIN;
 
-const HIGHEST: i32 = 2147483647;
+const HIGHEST: i32 = i32::MAX;
 
-fn shift(what: &[u8], height: i32, by: i32) {
-    lines::height(b"shift", what, kinds::shift(height, by));
+pub fn shifts(rt: &impl Print) -> io::Result<()> {
+    println!(rt; "# shift: held at the ends of the range")?;
+    for (height, by) in [
+        (2147483640, 20),
+        (2147483640, 7),
+        (HIGHEST, 1),
+        (HIGHEST, HIGHEST),
+        (-HIGHEST, -1),
+        (LOWEST, -1),
+        (LOWEST, LOWEST),
+        (HIGHEST, LOWEST),
+    ] {
+        println!(rt; "shift: {height} by {by} = {}", Height(shift(height, by)))?;
+    }
+    Ok(())
 }
 
-fn spike(what: &[u8], height: i32, beside: i32, parameter: i32) {
-    lines::answer(
-        b"is_spike",
-        what,
-        kinds::is_spike(height, beside, parameter),
-    );
+pub fn spikes(rt: &impl Print) -> io::Result<()> {
+    println!(rt; "# spike: a distance above p")?;
+    for (height, beside, p) in [
+        (2900, 1500, 1399),
+        (2900, 1500, 1400),
+        (1500, 2900, 1399),
+        (HIGHEST, LOWEST, HIGHEST),
+        (LOWEST, HIGHEST, HIGHEST),
+        (HIGHEST, 0, HIGHEST),
+        (5, 5, 0),
+        (5, 5, -1),
+        (5, 5, LOWEST),
+    ] {
+        let spike = yes_no(is_spike(height, beside, p));
+        println!(rt; "is_spike: {height} beside {beside}, p {p} = {spike}")?;
+    }
+    Ok(())
 }
 
-fn mean(what: &[u8], left: i32, right: i32) {
-    lines::height(b"mean", what, kinds::mean(left, right));
+pub fn floors_and_pairs(rt: &impl Print) -> io::Result<()> {
+    println!(rt; "# floor: a height below p; pair: the first above the second")?;
+    for (height, p) in [(1399, 1400), (1400, 1400), (LOWEST, HIGHEST)] {
+        println!(rt;
+            "is_below: {height}, p {p} = {}",
+            yes_no(is_below(height, p))
+        )?;
+    }
+    for (first, second) in [(1720, 1480), (1480, 1480), (-1, -2)] {
+        println!(rt;
+            "is_above: {first}, {second} = {}",
+            yes_no(is_above(first, second))
+        )?;
+    }
+    Ok(())
 }
 
-fn result(what: &[u8], kind: u8, parameter: i32, handed: [i32; 4]) {
-    lines::outcome(b"result", what, kinds::result(kind, parameter, handed));
+pub fn means(rt: &impl Print) -> io::Result<()> {
+    println!(rt; "# mean: a half away from zero")?;
+    for (left, right) in [
+        (3, 4),
+        (-3, -4),
+        (-1, 0),
+        (0, -1),
+        (0, 1),
+        (-2, 1),
+        (-1, 2),
+        (-5, 5),
+        (-4, -2),
+        (HIGHEST, LOWEST),
+        (HIGHEST, 0),
+        (HIGHEST, 2147483646),
+        (HIGHEST, HIGHEST),
+        (-HIGHEST, LOWEST),
+        (LOWEST, LOWEST),
+    ] {
+        println!(rt; "mean: {left}, {right} = {}", Height(mean(left, right)))?;
+    }
+    Ok(())
 }
 
-pub fn shifts() {
-    lines::heading(b"shift: held at the ends of the range");
-    shift(b"2147483640 by 20", 2147483640, 20);
-    shift(b"2147483640 by 7", 2147483640, 7);
-    shift(b"2147483647 by 1", HIGHEST, 1);
-    shift(b"2147483647 by 2147483647", HIGHEST, HIGHEST);
-    shift(b"-2147483647 by -1", -2147483647, -1);
-    shift(b"-2147483648 by -1", LOWEST, -1);
-    shift(b"-2147483648 by -2147483648", LOWEST, LOWEST);
-    shift(b"2147483647 by -2147483648", HIGHEST, LOWEST);
+/// A line with all that a kind reports.
+fn report(
+    rt: &impl Print,
+    what: &str,
+    kind: u8,
+    parameter: i32,
+    handed: [i32; 4],
+) -> io::Result<()> {
+    let outcome = kinds::result(kind, parameter, handed);
+    let values = Values {
+        run: &outcome.values,
+        arity: 4,
+    };
+    println!(rt;
+        "result: {what} ={values}, mark {}, refusal {}",
+        outcome.wrote, outcome.refusal
+    )
 }
 
-pub fn spikes() {
-    lines::heading(b"spike: a distance above p");
-    spike(b"2900 beside 1500, p 1399", 2900, 1500, 1399);
-    spike(b"2900 beside 1500, p 1400", 2900, 1500, 1400);
-    spike(b"1500 beside 2900, p 1399", 1500, 2900, 1399);
-    spike(
-        b"2147483647 beside -2147483648, p 2147483647",
-        HIGHEST,
-        LOWEST,
-        HIGHEST,
-    );
-    spike(
-        b"-2147483648 beside 2147483647, p 2147483647",
-        LOWEST,
-        HIGHEST,
-        HIGHEST,
-    );
-    spike(b"2147483647 beside 0, p 2147483647", HIGHEST, 0, HIGHEST);
-    spike(b"5 beside 5, p 0", 5, 5, 0);
-    spike(b"5 beside 5, p -1", 5, 5, -1);
-    spike(b"5 beside 5, p -2147483648", 5, 5, LOWEST);
+pub fn results(rt: &impl Print) -> io::Result<()> {
+    println!(rt; "# the result of a kind: four values, the mark, the refusal")?;
+    let ends = "spike 2147483647 of the two ends";
+    for (what, kind, parameter, first, second, third) in [
+        ("set 1500 of 7", SET, 1500, 7, 0, 0),
+        ("shift 20 of 2147483640", SHIFT, 20, 2147483640, 0, 0),
+        ("spike 1399 of 2900 beside 1500", SPIKE, 1399, 2900, 1500, 0),
+        ("spike 1400 of 2900 beside 1500", SPIKE, 1400, 2900, 1500, 0),
+        (ends, SPIKE, HIGHEST, HIGHEST, LOWEST, 0),
+        ("spike -1 of 5 beside 5", SPIKE, -1, 5, 5, 0),
+        ("floor 1400 of 1399", FLOOR, 1400, 1399, 0, 0),
+        ("floor 1400 of 1400", FLOOR, 1400, 1400, 0, 0),
+        ("mean of 3 and 4", MEAN, 0, 9, 3, 4),
+        ("mean of -3 and -4", MEAN, 0, 9, -3, -4),
+        ("mean of -1 and 0", MEAN, 0, 9, -1, 0),
+        ("pair 1720, 1480", PAIR, 0, 1720, 1480, 0),
+        ("pair 1480, 1480", PAIR, 0, 1480, 1480, 0),
+    ] {
+        report(rt, what, kind, parameter, [first, second, third, 0])?;
+    }
+    Ok(())
 }
 
-pub fn floors_and_pairs() {
-    lines::heading(b"floor: a height below p; pair: the first above the second");
-    lines::answer(b"is_below", b"1399, p 1400", kinds::is_below(1399, 1400));
-    lines::answer(b"is_below", b"1400, p 1400", kinds::is_below(1400, 1400));
-    lines::answer(
-        b"is_below",
-        b"-2147483648, p 2147483647",
-        kinds::is_below(LOWEST, HIGHEST),
-    );
-    lines::answer(b"is_above", b"1720, 1480", kinds::is_above(1720, 1480));
-    lines::answer(b"is_above", b"1480, 1480", kinds::is_above(1480, 1480));
-    lines::answer(b"is_above", b"-1, -2", kinds::is_above(-1, -2));
-}
-
-pub fn means() {
-    lines::heading(b"mean: a half away from zero");
-    mean(b"3, 4", 3, 4);
-    mean(b"-3, -4", -3, -4);
-    mean(b"-1, 0", -1, 0);
-    mean(b"0, -1", 0, -1);
-    mean(b"0, 1", 0, 1);
-    mean(b"-2, 1", -2, 1);
-    mean(b"-1, 2", -1, 2);
-    mean(b"-5, 5", -5, 5);
-    mean(b"-4, -2", -4, -2);
-    mean(b"2147483647, -2147483648", HIGHEST, LOWEST);
-    mean(b"2147483647, 0", HIGHEST, 0);
-    mean(b"2147483647, 2147483646", HIGHEST, 2147483646);
-    mean(b"2147483647, 2147483647", HIGHEST, HIGHEST);
-    mean(b"-2147483647, -2147483648", -2147483647, LOWEST);
-    mean(b"-2147483648, -2147483648", LOWEST, LOWEST);
-}
-
-pub fn results() {
-    lines::heading(b"the result of a kind: four values, the mark, the refusal");
-    result(b"set 1500 of 7", kinds::SET, 1500, [7, 0, 0, 0]);
-    result(
-        b"shift 20 of 2147483640",
-        kinds::SHIFT,
-        20,
-        [2147483640, 0, 0, 0],
-    );
-    result(
-        b"spike 1399 of 2900 beside 1500",
-        kinds::SPIKE,
-        1399,
-        [2900, 1500, 0, 0],
-    );
-    result(
-        b"spike 1400 of 2900 beside 1500",
-        kinds::SPIKE,
-        1400,
-        [2900, 1500, 0, 0],
-    );
-    result(
-        b"spike 2147483647 of the two ends",
-        kinds::SPIKE,
-        HIGHEST,
-        [HIGHEST, LOWEST, 0, 0],
-    );
-    result(b"spike -1 of 5 beside 5", kinds::SPIKE, -1, [5, 5, 0, 0]);
-    result(b"floor 1400 of 1399", kinds::FLOOR, 1400, [1399, 0, 0, 0]);
-    result(b"floor 1400 of 1400", kinds::FLOOR, 1400, [1400, 0, 0, 0]);
-    result(b"mean of 3 and 4", kinds::MEAN, 0, [9, 3, 4, 0]);
-    result(b"mean of -3 and -4", kinds::MEAN, 0, [9, -3, -4, 0]);
-    result(b"mean of -1 and 0", kinds::MEAN, 0, [9, -1, 0, 0]);
-    result(b"pair 1720, 1480", kinds::PAIR, 0, [1720, 1480, 0, 0]);
-    result(b"pair 1480, 1480", kinds::PAIR, 0, [1480, 1480, 0, 0]);
-}
-
-pub fn refusals() {
-    lines::heading(b"the result of a kind that has none: the values as handed");
-    result(b"kind 0", 0, 1, [5, 6, 7, 8]);
-    result(b"kind 7", 7, 1, [5, 6, 7, 8]);
-    result(b"kind 255", 255, 1, [5, 6, 7, 8]);
+pub fn refusals(rt: &impl Print) -> io::Result<()> {
+    println!(rt; "# the result of a kind that has none: the values as handed")?;
+    for (what, kind) in [("kind 0", 0), ("kind 7", 7), ("kind 255", 255)] {
+        report(rt, what, kind, 1, [5, 6, 7, 8])?;
+    }
+    Ok(())
 }

@@ -5,36 +5,42 @@ mod admission_edges;
 mod conflict_edges;
 mod job;
 mod kind_edges;
-mod lines;
 mod pass_edges;
 mod ready_edges;
 mod survey_edges;
 
-fn main() {
-    conflict_edges::accesses();
-    conflict_edges::places();
-    conflict_edges::jobs();
-    conflict_edges::places_of_jobs();
-    ready_edges::writers();
-    ready_edges::readers();
-    survey_edges::words();
-    survey_edges::writers();
-    survey_edges::readers();
-    survey_edges::runs();
-    survey_edges::judged();
-    survey_edges::counts();
-    pass_edges::chains_of_writers();
-    pass_edges::chains_of_readers();
-    pass_edges::chains_of_a_writer();
-    pass_edges::chains_of_counts();
-    admission_edges::counts();
-    admission_edges::accesses();
-    admission_edges::kinds_and_modes();
-    admission_edges::order();
-    kind_edges::shifts();
-    kind_edges::spikes();
-    kind_edges::floors_and_pairs();
-    kind_edges::means();
-    kind_edges::results();
-    kind_edges::refusals();
+use std::io;
+
+fn lines(rt: &impl Print) -> io::Result<()> {
+    conflict_edges::accesses(rt)?;
+    conflict_edges::places(rt)?;
+    conflict_edges::jobs(rt)?;
+    conflict_edges::places_of_jobs(rt)?;
+    ready_edges::writers(rt)?;
+    ready_edges::readers(rt)?;
+    survey_edges::words(rt)?;
+    survey_edges::writers(rt)?;
+    survey_edges::readers(rt)?;
+    survey_edges::runs(rt)?;
+    survey_edges::judged(rt)?;
+    survey_edges::counts(rt)?;
+    pass_edges::chains_of_writers(rt)?;
+    pass_edges::chains_of_readers(rt)?;
+    pass_edges::chains_of_a_writer(rt)?;
+    pass_edges::chains_of_counts(rt)?;
+    admission_edges::counts(rt)?;
+    admission_edges::accesses(rt)?;
+    admission_edges::kinds_and_modes(rt)?;
+    admission_edges::order(rt)?;
+    kind_edges::shifts(rt)?;
+    kind_edges::spikes(rt)?;
+    kind_edges::floors_and_pairs(rt)?;
+    kind_edges::means(rt)?;
+    kind_edges::results(rt)?;
+    kind_edges::refusals(rt)
+}
+
+fn main(rt: HostRuntime) {
+    // where the output is closed, there is nobody to tell
+    let _ = lines(&rt);
 }

@@ -1,65 +1,57 @@
 //! The pass over a list of jobs.
 
-use crate::{job, lines};
-use dependence::{READ, WRITE};
+use crate::job::of_one;
+use dependence::{Job, READ, WRITE};
+use passes::chain_lengths;
+use std::io;
 
-fn writers() -> [dependence::Job; 128] {
-    let writer = job::of_one(5, WRITE);
-    [writer; 128]
+/// 127 readers of a cell, and a writer of it in the place that is left.
+fn readers_and_writer(place: usize) -> [Job; 128] {
+    std::array::from_fn(|j| of_one(5, if j == place { WRITE } else { READ }))
 }
 
-/// 127 readers of a cell, and a writer of it after them.
-fn readers_and_writer() -> [dependence::Job; 128] {
-    let reader = job::of_one(5, READ);
-    let writer = job::of_one(5, WRITE);
-    let mut jobs = [reader; 128];
-    jobs[127] = writer;
-    jobs
+pub fn chains_of_writers(rt: &impl Print) -> io::Result<()> {
+    println!(rt; "# the pass for chains, 128 writers of one cell")?;
+    let lengths = chain_lengths([of_one(5, WRITE); 128], 128);
+    for j in [0, 1, 127] {
+        println!(rt; "chain_lengths: job {j} = {}", lengths[j])?;
+    }
+    Ok(())
 }
 
-/// A writer of a cell, and 127 readers of it after it.
-fn writer_and_readers() -> [dependence::Job; 128] {
-    let reader = job::of_one(5, READ);
-    let writer = job::of_one(5, WRITE);
-    let mut jobs = [reader; 128];
-    jobs[0] = writer;
-    jobs
+pub fn chains_of_readers(rt: &impl Print) -> io::Result<()> {
+    println!(rt; "# the pass for chains, 127 readers of one cell and then a writer")?;
+    let lengths = chain_lengths(readers_and_writer(127), 128);
+    for j in [0, 126, 127] {
+        println!(rt; "chain_lengths: job {j} = {}", lengths[j])?;
+    }
+    Ok(())
 }
 
-pub fn chains_of_writers() {
-    lines::heading(b"the pass for chains, 128 writers of one cell");
-    let lengths = passes::chain_lengths(writers(), 128);
-    lines::number(b"chain_lengths", b"job 0", lengths[0]);
-    lines::number(b"chain_lengths", b"job 1", lengths[1]);
-    lines::number(b"chain_lengths", b"job 127", lengths[127]);
+pub fn chains_of_a_writer(rt: &impl Print) -> io::Result<()> {
+    println!(rt; "# the pass for chains, a writer of one cell and then 127 readers")?;
+    let lengths = chain_lengths(readers_and_writer(0), 128);
+    for j in [0, 1, 127] {
+        println!(rt; "chain_lengths: job {j} = {}", lengths[j])?;
+    }
+    let alone = chain_lengths(readers_and_writer(0), 1);
+    println!(rt; "chain_lengths: without the readers, job 0 = {}", alone[0])
 }
 
-pub fn chains_of_readers() {
-    lines::heading(b"the pass for chains, 127 readers of one cell and then a writer");
-    let lengths = passes::chain_lengths(readers_and_writer(), 128);
-    lines::number(b"chain_lengths", b"job 0", lengths[0]);
-    lines::number(b"chain_lengths", b"job 126", lengths[126]);
-    lines::number(b"chain_lengths", b"job 127", lengths[127]);
-}
-
-pub fn chains_of_a_writer() {
-    lines::heading(b"the pass for chains, a writer of one cell and then 127 readers");
-    let lengths = passes::chain_lengths(writer_and_readers(), 128);
-    lines::number(b"chain_lengths", b"job 0", lengths[0]);
-    lines::number(b"chain_lengths", b"job 1", lengths[1]);
-    lines::number(b"chain_lengths", b"job 127", lengths[127]);
-    let alone = passes::chain_lengths(writer_and_readers(), 1);
-    lines::number(b"chain_lengths", b"without the readers, job 0", alone[0]);
-}
-
-pub fn chains_of_counts() {
-    lines::heading(b"the pass for chains, writers of one cell, by the number of jobs");
-    let none = passes::chain_lengths(writers(), 0);
-    lines::number(b"chain_lengths", b"0 jobs, job 0", none[0]);
-    let one = passes::chain_lengths(writers(), 1);
-    lines::number(b"chain_lengths", b"1 job, job 0", one[0]);
-    lines::number(b"chain_lengths", b"1 job, job 1", one[1]);
-    let many = passes::chain_lengths(writers(), 1000);
-    lines::number(b"chain_lengths", b"1000 jobs, job 0", many[0]);
-    lines::number(b"chain_lengths", b"1000 jobs, job 127", many[127]);
+pub fn chains_of_counts(rt: &impl Print) -> io::Result<()> {
+    println!(rt; "# the pass for chains, writers of one cell, by the number of jobs")?;
+    let writers = [of_one(5, WRITE); 128];
+    for (jobs, n, j) in [
+        ("0 jobs", 0, 0),
+        ("1 job", 1, 0),
+        ("1 job", 1, 1),
+        ("1000 jobs", 1000, 0),
+        ("1000 jobs", 1000, 127),
+    ] {
+        println!(rt;
+            "chain_lengths: {jobs}, job {j} = {}",
+            chain_lengths(writers, n)[j]
+        )?;
+    }
+    Ok(())
 }

@@ -2,30 +2,46 @@
 
 ghost use Rattle.std.specs.Prelude.{◌≤◌};
 
-use crate::{job, lines};
+use crate::job::{last_place, of_one, of_two};
 use cellset::Cells;
+use cellset::survey::{judged_rank, survey};
 use dependence::{PREDICTED_WRITE, READ, UNCERTAIN_WRITE, WRITE};
+use sample::access;
+use std::io;
 
-pub fn words() {
-    lines::heading(b"the words of a job's cells");
-    let first = Cells::of(job::of_one(0, READ));
-    lines::word(b"Cells::of", b"read 0, named", first.named);
-    lines::word(b"Cells::of", b"read 0, written", first.written);
-    lines::word(b"Cells::of", b"read 0, looked back for", first.back);
-    let last = Cells::of(job::of_one(63, WRITE));
-    lines::word(b"Cells::of", b"write 63, written", last.written);
-    let past = Cells::of(job::of_one(64, WRITE));
-    lines::word(b"Cells::of", b"write 64, past the word, named", past.named);
-    let both = Cells::of(job::of_two(UNCERTAIN_WRITE, PREDICTED_WRITE));
-    let names = b"maybe-write 5 and predicted write 6, named";
-    lines::word(b"Cells::of", names, both.named);
-    let surely = b"maybe-write 5 and predicted write 6, surely written";
-    lines::word(b"Cells::of", surely, both.sure);
-    let back = b"maybe-write 5 and predicted write 6, looked back for";
-    lines::word(b"Cells::of", back, both.back);
-    let used = Cells::of(job::last_place(3, job::access(5, WRITE)));
-    let unused = b"write 5 at place 3 of 3, not in use, written";
-    lines::word(b"Cells::of", unused, used.written);
+/// No job settled, or no guess out.
+const NONE: [u8; 128] = [0; 128];
+
+pub fn words(rt: &impl Print) -> io::Result<()> {
+    println!(rt; "# the words of a job's cells")?;
+    let first = Cells::of(of_one(0, READ));
+    let last = Cells::of(of_one(63, WRITE));
+    let past = Cells::of(of_one(64, WRITE));
+    let both = Cells::of(of_two(UNCERTAIN_WRITE, PREDICTED_WRITE));
+    let unused = Cells::of(last_place(3, access(5, WRITE)));
+    for (what, word) in [
+        ("read 0, named", first.named),
+        ("read 0, written", first.written),
+        ("read 0, looked back for", first.back),
+        ("write 63, written", last.written),
+        ("write 64, past the word, named", past.named),
+        ("maybe-write 5 and predicted write 6, named", both.named),
+        (
+            "maybe-write 5 and predicted write 6, surely written",
+            both.sure,
+        ),
+        (
+            "maybe-write 5 and predicted write 6, looked back for",
+            both.back,
+        ),
+        (
+            "write 5 at place 3 of 3, not in use, written",
+            unused.written,
+        ),
+    ] {
+        println!(rt; "Cells::of: {what} = {word}")?;
+    }
+    Ok(())
 }
 
 /// What the survey tells of the first `n` jobs, of which the last of 128 has cells of its own. Their own runs are not out.
@@ -39,6 +55,7 @@ fn told(
 ) -> [u8; 128]
     requires { n ≤ 128 }
 {
+    // A column for each word of the cells: so `survey` takes them, whose signature may not change.
     let mut named = [cells.named; 128];
     let mut written = [cells.written; 128];
     let mut sure = [cells.sure; 128];
@@ -47,105 +64,110 @@ fn told(
     written[127] = last.written;
     sure[127] = last.sure;
     back[127] = last.back;
-    let idle = [0u8; 128];
     let mut ranks = [0u8; 128];
-    cellset::survey::survey(
-        on, n, &named, &written, &sure, &back, &settled, &idle, &phases, &mut ranks,
+    survey(
+        on, n, &named, &written, &sure, &back, &settled, &NONE, &phases, &mut ranks,
     );
     ranks
 }
 
-pub fn writers() {
-    lines::heading(
-        b"the survey of 128 writers of one cell: 4 to be judged, 2 for step 0, 1 for step 1",
-    );
-    let writer = Cells::of(job::of_one(5, WRITE));
-    let none = [0u8; 128];
-    let early = told(128, false, writer, writer, none, none);
-    lines::number(b"survey", b"none settled, job 0", early[0]);
-    lines::number(b"survey", b"none settled, job 1", early[1]);
-    lines::number(b"survey", b"none settled, job 127", early[127]);
-    let mut settled = [1u8; 128];
+/// A line for each of these ranks.
+fn ranks(rt: &impl Print, rows: &[(&str, u8)]) -> io::Result<()> {
+    for (what, rank) in rows {
+        println!(rt; "survey: {what} = {rank}")?;
+    }
+    Ok(())
+}
+
+pub fn writers(rt: &impl Print) -> io::Result<()> {
+    println!(rt;
+        "# the survey of 128 writers of one cell: 4 to be judged, 2 for step 0, 1 for step 1"
+    )?;
+    let writer = Cells::of(of_one(5, WRITE));
+    let early = told(128, false, writer, writer, NONE, NONE);
+    let mut settled = [1; 128];
     settled[127] = 0;
-    let late = told(128, false, writer, writer, settled, none);
-    lines::number(b"survey", b"all others settled, job 126", late[126]);
-    lines::number(b"survey", b"all others settled, job 127", late[127]);
+    let late = told(128, false, writer, writer, settled, NONE);
     settled[0] = 0;
-    let held = told(128, false, writer, writer, settled, none);
-    lines::number(b"survey", b"job 0 not settled, job 127", held[127]);
+    let held = told(128, false, writer, writer, settled, NONE);
+    ranks(
+        rt,
+        &[
+            ("none settled, job 0", early[0]),
+            ("none settled, job 1", early[1]),
+            ("none settled, job 127", early[127]),
+            ("all others settled, job 126", late[126]),
+            ("all others settled, job 127", late[127]),
+            ("job 0 not settled, job 127", held[127]),
+        ],
+    )
 }
 
-pub fn readers() {
-    lines::heading(b"the survey of 127 readers of one cell and then a writer, none settled");
-    let reader = Cells::of(job::of_one(5, READ));
-    let writer = Cells::of(job::of_one(5, WRITE));
-    let none = [0u8; 128];
-    let mixed = told(128, true, reader, writer, none, none);
-    lines::number(b"survey", b"job 126", mixed[126]);
-    lines::number(b"survey", b"job 127, guessing on", mixed[127]);
-    let calm = told(128, false, reader, writer, none, none);
-    lines::number(b"survey", b"job 127, guessing off", calm[127]);
+pub fn readers(rt: &impl Print) -> io::Result<()> {
+    println!(rt; "# the survey of 127 readers of one cell and then a writer, none settled")?;
+    let reader = Cells::of(of_one(5, READ));
+    let writer = Cells::of(of_one(5, WRITE));
+    let mixed = told(128, true, reader, writer, NONE, NONE);
+    let calm = told(128, false, reader, writer, NONE, NONE);
+    ranks(
+        rt,
+        &[
+            ("job 126", mixed[126]),
+            ("job 127, guessing on", mixed[127]),
+            ("job 127, guessing off", calm[127]),
+        ],
+    )
 }
 
-pub fn runs() {
-    lines::heading(
-        b"the survey of 127 writers of one cell and then a reader, by the guesses of the writers",
-    );
-    let writer = Cells::of(job::of_one(5, WRITE));
-    let reader = Cells::of(job::of_one(5, READ));
-    let none = [0u8; 128];
-    let mut phases = [2u8; 128];
+pub fn runs(rt: &impl Print) -> io::Result<()> {
+    println!(rt;
+        "# the survey of 127 writers of one cell and then a reader, by the guesses of the writers"
+    )?;
+    let writer = Cells::of(of_one(5, WRITE));
+    let reader = Cells::of(of_one(5, READ));
+    let mut phases = [2; 128];
     phases[127] = 0;
-    let stored = told(128, true, writer, reader, none, phases);
-    lines::number(b"survey", b"all stored, job 0", stored[0]);
-    lines::number(b"survey", b"all stored, job 127", stored[127]);
+    let stored = told(128, true, writer, reader, NONE, phases);
     phases[126] = 1;
-    let out = told(128, true, writer, reader, none, phases);
-    lines::number(b"survey", b"the last one out, job 127", out[127]);
+    let last_out = told(128, true, writer, reader, NONE, phases);
     phases[126] = 2;
     phases[0] = 1;
-    let first = told(128, true, writer, reader, none, phases);
-    lines::number(b"survey", b"the first one out, job 0", first[0]);
-    lines::number(b"survey", b"the first one out, job 127", first[127]);
+    let first_out = told(128, true, writer, reader, NONE, phases);
+    ranks(
+        rt,
+        &[
+            ("all stored, job 0", stored[0]),
+            ("all stored, job 127", stored[127]),
+            ("the last one out, job 127", last_out[127]),
+            ("the first one out, job 0", first_out[0]),
+            ("the first one out, job 127", first_out[127]),
+        ],
+    )
 }
 
-pub fn judged() {
-    lines::heading(b"the rank of a job whose guess is judged: 3 for step 4, 2 for step 0");
-    lines::number(
-        b"judged_rank",
-        b"stored, stands",
-        cellset::survey::judged_rank(0, 2, false),
-    );
-    lines::number(
-        b"judged_rank",
-        b"stored, has fallen",
-        cellset::survey::judged_rank(0, 2, true),
-    );
-    lines::number(
-        b"judged_rank",
-        b"out, stands",
-        cellset::survey::judged_rank(0, 1, false),
-    );
-    lines::number(
-        b"judged_rank",
-        b"out, has fallen",
-        cellset::survey::judged_rank(0, 1, true),
-    );
-    let beside = b"out, has fallen, its own run out";
-    lines::number(
-        b"judged_rank",
-        beside,
-        cellset::survey::judged_rank(1, 1, true),
-    );
+pub fn judged(rt: &impl Print) -> io::Result<()> {
+    println!(rt; "# the rank of a job whose guess is judged: 3 for step 4, 2 for step 0")?;
+    for (what, running, phase, stale) in [
+        ("stored, stands", 0, 2, false),
+        ("stored, has fallen", 0, 2, true),
+        ("out, stands", 0, 1, false),
+        ("out, has fallen", 0, 1, true),
+        ("out, has fallen, its own run out", 1, 1, true),
+    ] {
+        println!(rt;
+            "judged_rank: {what} = {}",
+            judged_rank(running, phase, stale)
+        )?;
+    }
+    Ok(())
 }
 
-pub fn counts() {
-    lines::heading(b"the survey of readers of one cell, by the number of jobs");
-    let reader = Cells::of(job::of_one(5, READ));
-    let none = [0u8; 128];
-    let nobody = told(0, false, reader, reader, none, none);
-    lines::number(b"survey", b"0 jobs, job 0", nobody[0]);
-    let few = told(127, false, reader, reader, none, none);
-    lines::number(b"survey", b"127 jobs, job 126", few[126]);
-    lines::number(b"survey", b"127 jobs, job 127", few[127]);
+pub fn counts(rt: &impl Print) -> io::Result<()> {
+    println!(rt; "# the survey of readers of one cell, by the number of jobs")?;
+    let reader = Cells::of(of_one(5, READ));
+    for (n, j) in [(0, 0), (127, 126), (127, 127)] {
+        let ranks = told(n, false, reader, reader, NONE, NONE);
+        println!(rt; "survey: {n} jobs, job {j} = {}", ranks[j])?;
+    }
+    Ok(())
 }

@@ -57,13 +57,14 @@ pub record Columned (b : Batch) (n : ℕ) (named written sure back arities : Lis
   pub counts : Filled n (open_at b) (arity_at b) arities
 
 module _ (b : Batch) where
-  pub columned_none : (words bytes : List ℕ) → length words ≡ 128 → length bytes ≡ 128 → Columned b 0 words words words words bytes
-  columned_none words bytes h k = record {
-    names = filled_none (open_at b) (λ i. (cells_of (job_at b.jobs i)).named) words h;
-    writes = filled_none (open_at b) (λ i. (cells_of (job_at b.jobs i)).written) words h;
-    surely = filled_none (open_at b) (λ i. (cells_of (job_at b.jobs i)).sure) words h;
-    looks = filled_none (open_at b) (λ i. (cells_of (job_at b.jobs i)).back) words h;
-    counts = filled_none (open_at b) (arity_at b) bytes k;
+  pub columned_none : (named written sure back arities : List ℕ) → length named ≡ 128 → length written ≡ 128 → length sure ≡ 128
+      → length back ≡ 128 → length arities ≡ 128 → Columned b 0 named written sure back arities
+  columned_none named written sure back arities h k l m n = record {
+    names = filled_none (open_at b) (λ i. (cells_of (job_at b.jobs i)).named) named h;
+    writes = filled_none (open_at b) (λ i. (cells_of (job_at b.jobs i)).written) written k;
+    surely = filled_none (open_at b) (λ i. (cells_of (job_at b.jobs i)).sure) sure l;
+    looks = filled_none (open_at b) (λ i. (cells_of (job_at b.jobs i)).back) back m;
+    counts = filled_none (open_at b) (arity_at b) arities n;
   }
 
   module _ (n : ℕ) (named written sure back arities : List ℕ) (so_far : Columned b n named written sure back arities) where

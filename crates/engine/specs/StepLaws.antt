@@ -75,7 +75,7 @@ pub ready_is : (b : Batch) (j : ℕ) → is_ready (snapshot_of b) j ≡ ready b.
 unfolding is_ready ready
 ready_is b j = refl
 
--- The same by the number `early` that the code was given on asking what every step asks: where it is 0, the job has a
+-- The same by the number `early` with which every step may be refused: where it is 0, the job has a
 -- place and the step's own tests decide, and else it is the step's.
 module _ (b : Batch) (j : ℕ) {early : ℕ} (asked : early ≡ step_refusal b j) where
   pub refused_early : (rest : List Refusal) → eqb early 0 ≡ false → refusal_on b (step_tests (snapshot_of b) j rest) ≡ early

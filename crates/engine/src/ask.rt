@@ -2,6 +2,7 @@
 
 ghost use Rattle.std.specs.Prelude.{◌≡◌, ◌++◌, ◌≤◌, ◌<◌, length, take, drop, true};
 ghost use Rattle.dependence.specs.Job.{job_at};
+ghost use Rattle.refusal.specs.Refusal.{told};
 ghost use Rattle.rules.specs.Values.{value_at, is_stale};
 ghost use Rattle.rules.specs.Speculation.{is_ready, judged_as};
 ghost use Rattle.engine.specs.Record.{run_at, snapshot_of};
@@ -11,7 +12,8 @@ ghost use Rattle.engine.specs.Ask.{any_uncommitted, is_finished, asked_batch, co
 
 use crate::speculation::is_live;
 use crate::{Batch, BatchAnswer, CellAnswer, JobAnswer};
-use dependence::{Access, Job};
+use dependence::Job;
+use refusal::{Refusal, told};
 
 /// The mark that is shown of a job: before it is committed the one its run holds may still change.
 fn shown_mark(committed: u8, wrote: u8) -> u8
@@ -27,14 +29,7 @@ fn shown_mark(committed: u8, wrote: u8) -> u8
 fn refused_job(refusal: u8) -> JobAnswer
     ensures { result ≡ refused_job refusal }
 {
-    let access = Access { cell: 0, mode: 0 };
-    let job = Job {
-        kind: 0,
-        arity: 0,
-        accesses: [access; 4],
-        parameter: 0,
-        predicted: [0; 4],
-    };
+    let job = Job::default();
     JobAnswer {
         refusal,
         committed: 0,
@@ -49,81 +44,79 @@ fn refused_job(refusal: u8) -> JobAnswer
 }
 
 /// Puts the first `n` cells at the front of the places lent.
-fn put(places: &mut [i32], cells: [i32; 64], n: usize)
+fn put(places: &mut [i32], cells: &[i32; 64], n: usize)
     requires { (n ≤ 64) × (n ≤ length places.old) }
-    ensures { places.new ≡ take n cells ++ drop n places.old }
+    ensures { places.new ≡ take n cells.now ++ drop n places.old }
 {
-    let mut x: usize = 0;
-    while x < n {
-        let height = cells[x];
-        places[x] = height;
-        x += 1;
-    }
+    places[..n].copy_from_slice(&cells[..n]);
 }
 
 impl Batch {
-    /// Why the cell's height is not told, or 0.
-    fn cell_refusal(self, x: usize) -> u8
-        ensures { result ≡ cell_refusal self x }
+    // The entries make the number of a refusal at once, and test that: `asked_cell` and the like say their answer by the number.
+
+    /// Whether there is the cell.
+    #[tactic(auto, unfolding(laws::specs::Refusal::first_of, crate::specs::Ask::cell_refusal))]
+    fn has_cell(&self, x: usize) -> Result<(), Refusal>
+        ensures { told result ≡ cell_refusal self.now x }
     {
-        if self.is_in_form() {
-            if (self.cell_count as usize) <= x {
-                return 5;
-            }
-            return 0;
+        self.in_form()?;
+        if self.cell_count as usize <= x {
+            return Err(Refusal::NoSuchCell);
         }
-        32
+        Ok(())
     }
 
     /// R71: the height of cell `x`. Refused with 5 or 32.
-    pub fn cell(self, x: usize) -> CellAnswer
-        ensures { result ≡ asked_cell self x }
+    #[tactic(auto, unfolding(crate::specs::Ask::asked_cell))]
+    pub fn cell(&self, x: usize) -> CellAnswer
+        ensures { result ≡ asked_cell self.now x }
     {
-        let refusal = self.cell_refusal(x);
+        let refusal = told(self.has_cell(x));
         if refusal != 0 {
             return CellAnswer { refusal, height: 0 };
         }
         let height = self.cells[x];
-        CellAnswer { refusal: 0, height }
+        CellAnswer { refusal, height }
     }
 
-    /// Why the job is not shown, or 0.
-    fn job_ask_refusal(self, j: usize) -> u8
-        ensures { result ≡ job_ask_refusal self j }
+    // One function for this and `has_cell` would take the count and the refusal, and say less.
+
+    /// Whether there is the job.
+    #[tactic(auto, unfolding(laws::specs::Refusal::first_of, crate::specs::Ask::job_ask_refusal))]
+    fn has_job(&self, j: usize) -> Result<(), Refusal>
+        ensures { told result ≡ job_ask_refusal self.now j }
     {
-        if self.is_in_form() {
-            if (self.job_count as usize) <= j {
-                return 11;
-            }
-            return 0;
+        self.in_form()?;
+        if self.job_count as usize <= j {
+            return Err(Refusal::NoSuchJob);
         }
-        32
+        Ok(())
     }
+
+    // A number, as the C record `JobAnswer` holds it.
 
     /// R45: how the speculative run of job `j` is judged, where it is out or stored and the job not committed.
-    fn live_validity(self, j: usize) -> u8
-        requires { (j < self.job_count) × (self.job_count ≤ 128) }
-        ensures { result ≡ judged_as true (is_ready (snapshot_of self) j) (is_stale (job_at self.jobs j) (value_at (run_at self j).handed) (value_at self.cells)) }
+    fn live_validity(&self, j: usize) -> u8
+        requires { (j < self.now.job_count) × (self.now.job_count ≤ 128) }
+        ensures { result ≡ judged_as true (is_ready (snapshot_of self.now) j) (is_stale (job_at self.now.jobs j) (value_at (run_at self.now j).handed) (value_at self.now.cells)) }
     {
         let jobs = self.jobs;
         let committed = self.committed;
-        if dependence::is_ready(jobs, committed, j) {
-            let job = jobs[j];
-            let run = self.runs[j];
-            let handed = run.handed;
-            let cells = self.cells;
-            if runs::is_stale(job, handed, cells) {
-                return 3;
-            }
-            return 2;
+        if !dependence::is_ready(jobs, committed, j) {
+            return 1;
         }
-        1
+        let job = jobs[j];
+        let handed = self.runs[j].handed;
+        if runs::is_stale(job, handed, &self.cells) {
+            return 3;
+        }
+        2
     }
 
     /// What is held of job `j`, with its mark once it is committed.
-    fn shown_job(self, j: usize) -> JobAnswer
-        requires { (j < self.job_count) × (self.job_count ≤ 128) }
-        ensures { result ≡ shown_job self j }
+    fn shown_job(&self, j: usize) -> JobAnswer
+        requires { (j < self.now.job_count) × (self.now.job_count ≤ 128) }
+        ensures { result ≡ shown_job self.now j }
     {
         let job = self.jobs[j];
         let run = self.runs[j];
@@ -131,19 +124,15 @@ impl Batch {
         let running = self.running[j];
         let phase = self.phase[j];
         let mut validity = 0;
-        if committed == 0 {
-            if is_live(phase) {
-                // only here, since the call copies the whole record
-                validity = self.live_validity(j);
-            }
+        if committed == 0 && is_live(phase) {
+            validity = self.live_validity(j);
         }
-        let wrote = shown_mark(committed, run.wrote);
         let handed = run.handed;
         let reported = run.reported;
         JobAnswer {
             refusal: 0,
             committed,
-            wrote,
+            wrote: shown_mark(committed, run.wrote),
             running,
             phase,
             validity,
@@ -154,10 +143,11 @@ impl Batch {
     }
 
     /// R72: how job `j` stands. Refused with 11 or 32.
-    pub fn job(self, j: usize) -> JobAnswer
-        ensures { result ≡ asked_job self j }
+    #[tactic(auto, unfolding(crate::specs::Ask::asked_job))]
+    pub fn job(&self, j: usize) -> JobAnswer
+        ensures { result ≡ asked_job self.now j }
     {
-        let refusal = self.job_ask_refusal(j);
+        let refusal = told(self.has_job(j));
         if refusal != 0 {
             return refused_job(refusal);
         }
@@ -165,84 +155,69 @@ impl Batch {
     }
 
     /// Whether one of the jobs held is not committed.
-    fn any_uncommitted(self) -> bool
-        requires { self.job_count ≤ 128 }
-        ensures { result ≡ any_uncommitted self }
+    fn any_uncommitted(&self) -> bool
+        requires { self.now.job_count ≤ 128 }
+        ensures { result ≡ any_uncommitted self.now }
     {
-        let n = self.job_count as usize;
-        let mut j: usize = 0;
-        while j < n {
+        for j in 0..self.job_count as usize {
             if self.committed[j] == 0 {
                 return true;
             }
-            j += 1;
         }
         false
     }
 
     /// Whether the batch is sealed and every job of it committed.
-    fn is_finished(self) -> bool
-        requires { self.job_count ≤ 128 }
-        ensures { result ≡ is_finished self }
+    #[tactic(auto, unfolding(crate::specs::Ask::is_finished))]
+    fn is_finished(&self) -> bool
+        requires { self.now.job_count ≤ 128 }
+        ensures { result ≡ is_finished self.now }
     {
-        if self.sealed == 0 {
-            return false;
-        }
-        !self.any_uncommitted()
+        self.sealed != 0 && !self.any_uncommitted()
     }
 
     /// R73: how the batch as a whole stands. Refused with 32.
-    pub fn progress(self) -> BatchAnswer
-        ensures { result ≡ asked_batch self }
+    #[tactic(auto, unfolding(crate::specs::Ask::asked_batch))]
+    pub fn progress(&self) -> BatchAnswer
+        ensures { result ≡ asked_batch self.now }
     {
-        if self.is_in_form() {
-            let finished = self.is_finished();
+        if !self.is_in_form() {
             return BatchAnswer {
-                refusal: 0,
-                cell_count: self.cell_count,
-                job_count: self.job_count,
-                sealed: self.sealed,
-                speculating: self.speculating,
-                finished,
+                refusal: Refusal::OutOfForm as u8,
+                ..BatchAnswer::default()
             };
         }
         BatchAnswer {
-            refusal: 32,
-            cell_count: 0,
-            job_count: 0,
-            sealed: 0,
-            speculating: 0,
-            finished: false,
+            refusal: 0,
+            cell_count: self.cell_count,
+            job_count: self.job_count,
+            sealed: self.sealed,
+            speculating: self.speculating,
+            finished: self.is_finished(),
         }
     }
 
-    /// Why the cells are not copied out to a buffer of the size from the place `at` on, or 0.
-    fn copy_refusal(self, size: usize, at: usize) -> u8
-        ensures { result ≡ copy_answer self size at }
+    /// Whether the cells have room in a buffer of the size from the place `at` on.
+    #[tactic(auto, unfolding(laws::specs::Refusal::first_of, crate::specs::Ask::copy_answer))]
+    fn has_room(&self, size: usize, at: usize) -> Result<(), Refusal>
+        ensures { told result ≡ copy_answer self.now size at }
     {
-        if self.is_in_form() {
-            if size < at {
-                return 20;
-            }
-            if size - at < (self.cell_count as usize) {
-                return 20;
-            }
-            return 0;
+        self.in_form()?;
+        if size.saturating_sub(at) < self.cell_count as usize {
+            return Err(Refusal::NoRoom);
         }
-        32
+        Ok(())
     }
 
     /// R74: copies the cells to the buffer from the place `at` on. Refused with 20 or 32.
-    pub fn copy_out(self, buffer: &mut [i32], at: usize) -> u8
-        ensures { (result ≡ copy_answer self (length buffer.old) at) × (buffer.new ≡ buffer_after self buffer.old at) }
+    pub fn copy_out(&self, buffer: &mut [i32], at: usize) -> u8
+        ensures { (result ≡ copy_answer self.now (length buffer.old) at) × (buffer.new ≡ buffer_after self.now buffer.old at) }
     {
-        let refusal = self.copy_refusal(buffer.len(), at);
+        let refusal = told(self.has_room(buffer.len(), at));
         if refusal != 0 {
             return refusal;
         }
-        let n = self.cell_count as usize;
-        let cells = self.cells;
-        put(&mut buffer[at..], cells, n);
+        put(&mut buffer[at..], &self.cells, self.cell_count as usize);
         0
     }
 }

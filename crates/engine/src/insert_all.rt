@@ -4,40 +4,38 @@ ghost use Rattle.std.specs.Prelude.{◌≡◌, ◌≤◌};
 ghost use Rattle.engine.specs.InsertAll.{inserted_all};
 ghost use Rattle.engine.specs.InsertAllPass.{refused_from};
 
-use crate::opening::blank_run;
 use crate::{Batch, InsertedAll, JobList};
+use refusal::{Refusal, told};
+
+// Not an Option: the numbers are what `InsertedAll` holds, zeros too, and `is_refused`, which is quick, does not say why.
 
 /// The refusal of a job of a list, and its place there; zeros where no job is refused.
-#[derive(Clone, Copy)]
+#[derive(Clone, Copy, Default)]
 struct FirstRefused {
     refusal: u8,
     at: u8,
 }
 
 /// The first of the jobs that is refused, where they are inserted one after the other and `held` jobs are held before.
-fn first_refused(list: JobList, held: usize, cell_count: u8) -> FirstRefused
+fn first_refused(list: &JobList, held: usize, cell_count: u8) -> FirstRefused
     requires { held ≤ 128 }
-    ensures { result ≡ refused_from held cell_count list.jobs 0 list.count }
+    ensures { result ≡ refused_from held cell_count list.now.jobs 0 list.now.count }
 {
-    let mut k: usize = 0;
-    while k < list.count {
+    for k in 0..list.count {
+        let at = k as u8;
         if 128 <= held + k {
             return FirstRefused {
-                refusal: 3,
-                at: k as u8,
+                refusal: Refusal::Full as u8,
+                at,
             };
         }
         let job = list.jobs[k];
         if admission::is_refused(job, cell_count) {
-            let refusal = admission::job_refusal(job, cell_count);
-            return FirstRefused {
-                refusal,
-                at: k as u8,
-            };
+            let refusal = told(admission::check(job, cell_count));
+            return FirstRefused { refusal, at };
         }
-        k += 1;
     }
-    FirstRefused { refusal: 0, at: 0 }
+    FirstRefused::default()
 }
 
 impl Batch {
@@ -47,15 +45,14 @@ impl Batch {
     pub fn insert_all(mut self, list: JobList) -> InsertedAll
         ensures { result ≡ inserted_all self list.jobs list.count }
     {
-        let formed = self.is_in_form();
-        if !formed {
+        if !self.is_in_form() {
             return InsertedAll {
-                refusal: 32,
+                refusal: Refusal::OutOfForm as u8,
                 at: 0,
                 batch: self,
             };
         }
-        let refused = first_refused(list, self.job_count as usize, self.cell_count);
+        let refused = first_refused(&list, self.job_count as usize, self.cell_count);
         if refused.refusal != 0 {
             return InsertedAll {
                 refusal: refused.refusal,
@@ -63,18 +60,8 @@ impl Batch {
                 batch: self,
             };
         }
-        let run = blank_run();
-        let mut k: usize = 0;
-        while k < list.count {
-            let job = list.jobs[k];
-            let n = self.job_count as usize;
-            self.jobs[n] = job;
-            self.runs[n] = run;
-            self.committed[n] = 0;
-            self.running[n] = 0;
-            self.phase[n] = 0;
-            self.job_count += 1;
-            k += 1;
+        for k in 0..list.count {
+            self.add(list.jobs[k]);
         }
         InsertedAll {
             refusal: 0,

@@ -1,4 +1,4 @@
-//! The batch engine: a record that goes in by value and comes back with each answer.
+//! The batch engine: a record that goes into a step by value and comes back with its answer, and is lent to who asks of it.
 #![tactic(auto)]
 
 use dependence::Job;
@@ -8,12 +8,16 @@ mod ask;
 mod by_number;
 mod change;
 mod chooser;
+mod columns;
 mod form;
 mod insert_all;
 mod opening;
 pub mod speculation;
 mod steps;
 mod turn;
+
+// The records that hosts in C hold and are handed keep numbers for refusals, kinds, modes, states and steps, columns of them in
+// fixed arrays, and counts beside these: any bytes may come back in them, and what is out of form is refused with 32.
 
 /// A run of a job: the values handed out and the report on it. Of a speculative run also where its values came from:
 /// for each place one more than the number of the job it was forwarded from, 0 for the cell itself, and the jobs bypassed.
@@ -105,6 +109,8 @@ pub struct JobRun {
     pub run: Run,
 }
 
+// Told with the number beside the rest, and not as a Result: `turn_change` says every field of a refused turn too.
+
 /// What a turn comes to: the number of its refusal, or 0 and then its steps and what is to be stored of it: the first `stored`
 /// of the runs `changed`, each in the place of its job, the cells and the jobs' states. Where the number is not 0, nothing is
 /// changed, and what else stands here is blank.
@@ -132,7 +138,7 @@ pub struct Started {
 
 /// What asking a cell answers: its height, 0 where it is refused.
 #[repr(C)]
-#[derive(Clone, Copy)]
+#[derive(Clone, Copy, Default)]
 pub struct CellAnswer {
     pub refusal: u8,
     pub height: i32,
@@ -157,7 +163,7 @@ pub struct JobAnswer {
 
 /// What asking for the batch's progress answers. All are 0, and `finished` is false, where it is refused.
 #[repr(C)]
-#[derive(Clone, Copy)]
+#[derive(Clone, Copy, Default)]
 pub struct BatchAnswer {
     pub refusal: u8,
     pub cell_count: u8,
@@ -169,7 +175,7 @@ pub struct BatchAnswer {
 
 /// What the chooser answers: the step, the job and the length of its chain, or the number of the refusal and zeros.
 #[repr(C)]
-#[derive(Clone, Copy)]
+#[derive(Clone, Copy, Default)]
 pub struct Choice {
     pub refusal: u8,
     pub step: u8,

@@ -1,6 +1,6 @@
 //! Speculative runs: which are invalid, and whether a new one can start.
 
-ghost use Rattle.std.specs.Prelude.{◌≡◌, ◌<◌, length};
+ghost use Rattle.std.specs.Prelude.{◌≡◌, ◌<◌};
 ghost use Rattle.rules.specs.Snapshot.{is_live};
 ghost use Rattle.engine.specs.Speculation.{invalid_run, unusable_at, unusable_any};
 
@@ -11,53 +11,37 @@ use dependence::Job;
 pub fn is_live(phase: u8) -> bool
     ensures { result ≡ is_live phase }
 {
-    if phase == 1 {
-        return true;
-    }
-    phase == 2
+    phase == 1 || phase == 2
 }
 
 /// R44: whether the run, speculative in the phase given, of a job that is ready or not, is invalid: a value that it was
 /// handed is not present any more.
-pub(crate) fn is_invalid(ready: bool, phase: u8, job: Job, run: Run, cells: [i32; 64]) -> bool
-    ensures { result ≡ invalid_run ready phase job run cells }
+pub(crate) fn is_invalid(ready: bool, phase: u8, job: Job, run: Run, cells: &[i32; 64]) -> bool
+    ensures { result ≡ invalid_run ready phase job run cells.now }
 {
-    if ready {
-        if is_live(phase) {
-            let handed = run.handed;
-            return runs::is_stale(job, handed, cells);
-        }
-    }
-    false
+    ready && is_live(phase) && runs::is_stale(job, run.handed, cells)
 }
 
 /// Whether the value at the place has a source that cannot be forwarded from: it has no stored report.
 fn unusable_at(sources: [u8; 4], phases: &[u8; 128], place: usize) -> bool
-    requires { (place < 4) × (length phases.now ≡ 128) }
+    requires { place < 4 }
     ensures { result ≡ unusable_at sources phases.now place }
 {
     let source = sources[place] as usize;
     if source == 0 {
         return false;
     }
-    let w = source - 1;
-    if 128 <= w {
-        return true;
-    }
-    phases[w] != 2
+    128 < source || phases[source - 1] != 2
 }
 
 /// Whether one of the four places has such a source.
 pub(crate) fn unusable_any(sources: [u8; 4], phases: &[u8; 128]) -> bool
-    requires { length phases.now ≡ 128 }
     ensures { result ≡ unusable_any sources phases.now }
 {
-    let mut place: usize = 0;
-    while place < 4 {
+    for place in 0..4 {
         if unusable_at(sources, phases, place) {
             return true;
         }
-        place += 1;
     }
     false
 }

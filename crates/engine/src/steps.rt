@@ -2,78 +2,19 @@
 
 ghost use Rattle.std.specs.Prelude.{◌≡◌, not, ◌&&◌, ◌||◌, [], ◌∷◌, eqb};
 ghost use Rattle.laws.specs.Refusal.{when, first_of};
+ghost use Rattle.refusal.specs.Refusal.{told};
 ghost use Rattle.dependence.specs.Ready.{is_committed};
 ghost use Rattle.rules.specs.Snapshot.{never_started, is_stored, is_live};
 ghost use Rattle.rules.specs.Values.{wrote_refused};
 ghost use Rattle.engine.specs.Steps.{new_run, reported_run, discarded_phase};
 ghost use Rattle.engine.specs.Steps.{started_own, started_speculation, reported_own, reported_speculation, committed_by};
 
+use crate::change::Standing;
 use crate::speculation::is_live;
-use crate::{Answer, Batch, Run, Started};
+use crate::{Answer, Batch, Report, Run, Started};
 use dependence::Job;
 use jobset::JobSet;
-
-/// Whether one of the two holds.
-fn either(a: bool, b: bool) -> bool
-    ensures { result ≡ (a || b) }
-{
-    if a {
-        return true;
-    }
-    b
-}
-
-/// Whether both hold.
-fn both(a: bool, b: bool) -> bool
-    ensures { result ≡ (a && b) }
-{
-    if a {
-        return b;
-    }
-    false
-}
-
-/// The number of the first of the tests that holds, or 0.
-fn first_of_two(a: bool, first: u8, b: bool, second: u8) -> u8
-    ensures { result ≡ first_of (when a first ∷ when b second ∷ []) }
-{
-    if a {
-        return first;
-    }
-    if b {
-        return second;
-    }
-    0
-}
-
-/// The same for three tests.
-fn first_of_three(a: bool, first: u8, b: bool, second: u8, c: bool, third: u8) -> u8
-    ensures { result ≡ first_of (when a first ∷ when b second ∷ when c third ∷ []) }
-{
-    if a {
-        return first;
-    }
-    first_of_two(b, second, c, third)
-}
-
-/// The same for four tests.
-fn first_of_four(
-    a: bool,
-    first: u8,
-    b: bool,
-    second: u8,
-    c: bool,
-    third: u8,
-    d: bool,
-    fourth: u8,
-) -> u8
-    ensures { result ≡ first_of (when a first ∷ when b second ∷ when c third ∷ when d fourth ∷ []) }
-{
-    if a {
-        return first;
-    }
-    first_of_three(b, second, c, third, d, fourth)
-}
+use refusal::Refusal;
 
 /// A run that was handed the values, before any report.
 pub(crate) fn new_run(handed: [i32; 4], sources: [u8; 4], bypassed: JobSet) -> Run
@@ -98,112 +39,142 @@ pub(crate) fn discarded_phase(phase: u8) -> u8
     3
 }
 
-/// Why the own run of a job held is not started, or 0.
-pub(crate) fn start_own_refusal(how: u8, running: u8, phase: u8, ready: bool, invalid: bool) -> u8
-    ensures { result ≡ first_of (when (is_committed how || not (eqb running 0)) 13 ∷ when (not ready) 15 ∷ when ((ready && is_live phase) && not invalid) 17 ∷ []) }
+/// Whether the own run of a job held may be started.
+#[tactic(auto, unfolding(laws::specs::Refusal::first_of))]
+pub(crate) fn may_start_own(now: Standing, ready: bool, invalid: bool) -> Result<(), Refusal>
+    ensures { told result ≡ first_of (when (is_committed now.committed || not (eqb now.running 0)) 13 ∷ when (not ready) 15 ∷ when ((ready && is_live now.phase) && not invalid) 17 ∷ []) }
 {
-    let busy = either(how != 0, running != 0);
-    let live = is_live(phase);
-    let judged = both(ready, live);
-    let valid = both(judged, !invalid);
-    first_of_three(busy, 13, !ready, 15, valid, 17)
+    if now.committed != 0 || now.running != 0 {
+        return Err(Refusal::State);
+    }
+    if !ready {
+        return Err(Refusal::NotReady);
+    }
+    if is_live(now.phase) && !invalid {
+        return Err(Refusal::Valid);
+    }
+    Ok(())
 }
 
-/// Why the speculative run of a job held is not started, or 0.
-pub(crate) fn start_speculation_refusal(
+/// Whether the speculative run of a job held may be started.
+#[tactic(auto, unfolding(laws::specs::Refusal::first_of))]
+pub(crate) fn may_start_speculation(
     on: bool,
-    how: u8,
-    running: u8,
-    phase: u8,
+    now: Standing,
     ready: bool,
     missing: bool,
-) -> u8
-    ensures { result ≡ first_of (when (not on) 12 ∷ when (is_committed how || (not (eqb running 0) || not (never_started phase))) 13 ∷ when ready 14 ∷ when missing 15 ∷ []) }
+) -> Result<(), Refusal>
+    ensures { told result ≡ first_of (when (not on) 12 ∷ when (is_committed now.committed || (not (eqb now.running 0) || not (never_started now.phase))) 13 ∷ when ready 14 ∷ when missing 15 ∷ []) }
 {
-    let started = either(running != 0, phase != 0);
-    let busy = either(how != 0, started);
-    first_of_four(!on, 12, busy, 13, ready, 14, missing, 15)
+    if !on {
+        return Err(Refusal::SpeculationOff);
+    }
+    if now.committed != 0 || now.running != 0 || now.phase != 0 {
+        return Err(Refusal::State);
+    }
+    if ready {
+        return Err(Refusal::Ready);
+    }
+    if missing {
+        return Err(Refusal::NotReady);
+    }
+    Ok(())
 }
 
-/// Why a report is not taken, whichever run it is on, or 0: that run is not out, or the mark is refused.
-pub(crate) fn report_refusal(out: bool, job: Job, wrote: u8) -> u8
-    ensures { result ≡ first_of (when (not out) 13 ∷ when (wrote_refused job wrote) 16 ∷ []) }
+/// Whether a report may be taken, whichever run it is on: that run is out, and the mark fits the job.
+#[tactic(auto, unfolding(laws::specs::Refusal::first_of))]
+pub(crate) fn may_report(out: bool, job: Job, wrote: u8) -> Result<(), Refusal>
+    ensures { told result ≡ first_of (when (not out) 13 ∷ when (wrote_refused job wrote) 16 ∷ []) }
 {
-    let refused = runs::wrote_refused(job, wrote);
-    first_of_two(!out, 13, refused, 16)
+    if !out {
+        return Err(Refusal::State);
+    }
+    if runs::wrote_refused(job, wrote) {
+        return Err(Refusal::Mark);
+    }
+    Ok(())
 }
 
-/// Why the speculative run of a job held is not committed, or 0.
-pub(crate) fn commit_refusal(how: u8, phase: u8, ready: bool, invalid: bool) -> u8
-    ensures { result ≡ first_of (when (is_committed how || not (is_stored phase)) 13 ∷ when (not ready) 15 ∷ when invalid 18 ∷ []) }
+/// Whether the speculative run of a job held may be committed.
+#[tactic(auto, unfolding(laws::specs::Refusal::first_of))]
+pub(crate) fn may_commit(now: Standing, ready: bool, invalid: bool) -> Result<(), Refusal>
+    ensures { told result ≡ first_of (when (is_committed now.committed || not (is_stored now.phase)) 13 ∷ when (not ready) 15 ∷ when invalid 18 ∷ []) }
 {
-    let stored = phase == 2;
-    let wrong = either(how != 0, !stored);
-    first_of_three(wrong, 13, !ready, 15, invalid, 18)
+    if now.committed != 0 || now.phase != 2 {
+        return Err(Refusal::State);
+    }
+    if !ready {
+        return Err(Refusal::NotReady);
+    }
+    if invalid {
+        return Err(Refusal::Invalid);
+    }
+    Ok(())
 }
 
 /// The run with a report.
-pub(crate) fn reported_run(job: Job, run: Run, values: [i32; 4], wrote: u8) -> Run
-    ensures { result ≡ reported_run job run values wrote }
+pub(crate) fn reported_run(job: Job, run: Run, report: Report) -> Run
+    ensures { result ≡ reported_run job run report.values report.wrote }
 {
-    let handed = run.handed;
-    let sources = run.sources;
-    let bypassed = run.bypassed;
-    let reported = runs::stored_values(job, handed, values, wrote);
+    let reported = runs::stored_values(job, run.handed, report.values, report.wrote);
     Run {
-        handed,
         reported,
-        wrote,
-        sources,
-        bypassed,
+        wrote: report.wrote,
+        ..run
     }
 }
 
-/// The answer of a step that hands nothing out.
-fn without_values(started: Started) -> Answer
-    ensures { result ≡ record { refusal = started.refusal; batch = started.batch } }
-{
-    let batch = started.batch;
-    Answer {
-        refusal: started.refusal,
-        batch,
+impl From<Started> for Answer {
+    /// The answer of a step that hands nothing out.
+    fn from(started: Started) -> Answer
+        ensures { result ≡ record { refusal = started.refusal; batch = started.batch } }
+    {
+        let Started { refusal, batch, .. } = started;
+        Answer { refusal, batch }
     }
 }
 
 impl Batch {
     /// R51, step 0: starts the own run of job `j` and hands out the present values of its cells.
+    #[tactic(auto, unfolding(crate::specs::ByNumber::stepped))]
     pub fn start_own(self, j: usize) -> Started
         ensures { result ≡ started_own self j }
     {
-        self.step(0, j, [0; 4], 0)
+        self.step(0, j, Report::default())
     }
 
     /// R52, step 1: starts the speculative run of job `j`, as if the uncertain writers before it wrote nothing and its
     /// predictions were right.
+    #[tactic(auto, unfolding(crate::specs::ByNumber::stepped))]
     pub fn start_speculation(self, j: usize) -> Started
         ensures { result ≡ started_speculation self j }
     {
-        self.step(1, j, [0; 4], 0)
+        self.step(1, j, Report::default())
     }
 
     /// R53, step 2: takes the report on the own run of job `j`, writes its cells and commits the job.
-    pub fn report_own(self, j: usize, values: [i32; 4], wrote: u8) -> Answer
-        ensures { result ≡ reported_own self j values wrote }
+    #[tactic(auto, unfolding(crate::specs::ByNumber::stepped))]
+    pub fn report_own(self, j: usize, report: Report) -> Answer
+        ensures { result ≡ reported_own self j report.values report.wrote }
     {
-        without_values(self.step(2, j, values, wrote))
+        Answer::from(self.step(2, j, report))
     }
 
+    // As `report_own` but for the number: both are entries of their own.
+
     /// R54, step 3: stores the report on the speculative run of job `j`; no cell changes.
-    pub fn report_speculation(self, j: usize, values: [i32; 4], wrote: u8) -> Answer
-        ensures { result ≡ reported_speculation self j values wrote }
+    #[tactic(auto, unfolding(crate::specs::ByNumber::stepped))]
+    pub fn report_speculation(self, j: usize, report: Report) -> Answer
+        ensures { result ≡ reported_speculation self j report.values report.wrote }
     {
-        without_values(self.step(3, j, values, wrote))
+        Answer::from(self.step(3, j, report))
     }
 
     /// R55, step 4: commits job `j` by its speculative run, whose stored report is written into the cells.
+    #[tactic(auto, unfolding(crate::specs::ByNumber::stepped))]
     pub fn commit(self, j: usize) -> Answer
         ensures { result ≡ committed_by self j }
     {
-        without_values(self.step(4, j, [0; 4], 0))
+        Answer::from(self.step(4, j, Report::default()))
     }
 }

@@ -16,18 +16,10 @@ const USAGE: [u8; 193] =
     *b"usage: gaugebatch < PLAN\nReads a plan and writes its answer. The answer to a faulty plan is 'fault line', a number and a line.\nFor words in place of numbers, and an exit status, use gaugeplan.\n";
 
 /// One byte more than a plan may have, so that a longer one shows.
-fn input_buffer() -> [u8; 65537]
-    ensures { 65537 ≡ length result }
-{
-    [0; 65537]
-}
+const LONGEST_INPUT: usize = 65537;
 
 /// As much as any output takes.
-fn output_buffer() -> [u8; 334861]
-    ensures { 334861 ≡ length result }
-{
-    [0; 334861]
-}
+const LONGEST_OUTPUT: usize = 334861;
 
 /// The whole output, in a buffer that is large enough for it.
 fn respond(input: &[u8], output: &mut [u8]) -> usize
@@ -40,10 +32,8 @@ fn respond(input: &[u8], output: &mut [u8]) -> usize
 
 /// What comes before the system's number of an error.
 fn words_of(told: &str) -> &str {
-    match told.split_once(" (os error ") {
-        Some((words, _)) => words,
-        None => told,
-    }
+    told.split_once(" (os error ")
+        .map_or(told, |(words, _)| words)
 }
 
 /// R154: says on standard error what could not be done, and the system's reason.
@@ -70,10 +60,7 @@ fn write_out(rt: &HostRuntime, text: &[u8]) {
 /// Whether the program was given an argument with that number. Number 0 is its own name.
 fn is_given(rt: &HostRuntime, number: usize) -> bool {
     let mut word = [0u8; 1];
-    match rt.arg(number, &mut word) {
-        Err(FillError::NotPresent) => false,
-        _ => true,
-    }
+    !matches!(rt.arg(number, &mut word), Err(FillError::NotPresent))
 }
 
 /// R155: whether the only argument asks how the program is used. A longer word than the buffer takes is another one.
@@ -85,7 +72,7 @@ fn asks_for_help(rt: &HostRuntime) -> bool {
     match rt.arg(1, &mut word) {
         Ok(n) => {
             let asked = &word[..n];
-            text::same_text(asked, b"--help") || text::same_text(asked, b"-h")
+            asked == b"--help".as_slice() || asked == b"-h".as_slice()
         }
         Err(_) => false,
     }
@@ -101,14 +88,15 @@ fn main(rt: HostRuntime) {
         let _ = rt.stderr().write_all(&USAGE);
         return;
     }
-    let mut input = input_buffer();
-    let read = input::read_input(&mut rt.stdin(), &mut input);
-    if let Some(error) = read.failed {
-        complain(&rt, "the plan could not be read", error);
-        return;
-    }
-    let n = read.length;
-    let mut output = output_buffer();
+    let mut input = [0u8; LONGEST_INPUT];
+    let n = match input::read_input(&mut rt.stdin(), &mut input) {
+        Ok(length) => length,
+        Err(error) => {
+            complain(&rt, "the plan could not be read", error);
+            return;
+        }
+    };
+    let mut output = [0u8; LONGEST_OUTPUT];
     let m = respond(&input[..n], &mut output);
     write_out(&rt, &output[..m]);
 }

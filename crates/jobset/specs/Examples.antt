@@ -1,6 +1,5 @@
 -- Sizes and lowest jobs of sets, computed from the definitions: at the edges of the two words, and past them.
-use Rattle.std.specs.Prelude.{ℕ, List, [], ◌∷◌, ◌≡◌, refl}
-use Rattle.std.proofs.Math.Option.{Option, none, some}
+use Rattle.std.specs.Prelude.{ℕ, List, [], ◌∷◌, ◌≡◌, refl, Option, None, Some}
 use Rattle.laws.specs.Fold.{count_below}
 use Rattle.laws.specs.Search.{least_below}
 use Rattle.laws.specs.Rows.{AllHold, end, ◌also◌}
@@ -26,21 +25,21 @@ abbrev pub table : List Example
 table =
     -- none, one in each word, and the last of all
     size [] 0
-    ∷ lowest [] none
+    ∷ lowest [] None
     ∷ size (0 ∷ []) 1
-    ∷ lowest (0 ∷ []) (some 0)
+    ∷ lowest (0 ∷ []) (Some 0)
     ∷ size (64 ∷ []) 1
-    ∷ lowest (64 ∷ []) (some 64)
+    ∷ lowest (64 ∷ []) (Some 64)
     ∷ size (127 ∷ []) 1
-    ∷ lowest (127 ∷ []) (some 127)
+    ∷ lowest (127 ∷ []) (Some 127)
     -- both words, in any order
     ∷ size (64 ∷ 63 ∷ []) 2
-    ∷ lowest (64 ∷ 63 ∷ []) (some 63)
+    ∷ lowest (64 ∷ 63 ∷ []) (Some 63)
     ∷ size (5 ∷ 127 ∷ 0 ∷ 70 ∷ []) 4
-    ∷ lowest (5 ∷ 127 ∷ 7 ∷ 70 ∷ []) (some 5)
+    ∷ lowest (5 ∷ 127 ∷ 7 ∷ 70 ∷ []) (Some 5)
     -- a job named twice is one job, and 128 is none
     ∷ size (9 ∷ 9 ∷ 128 ∷ []) 1
-    ∷ lowest (128 ∷ []) none
+    ∷ lowest (128 ∷ []) None
     ∷ []
 
 pub examples_hold : AllHold Holds table

@@ -1,8 +1,8 @@
 -- R78: the size of a set of jobs and its lowest, what they mean, and how the counts of its two words give them.
-use Rattle.std.specs.Prelude.{ℕ, ◌+◌, ◌-◌, ◌/◌, ◌^◌, ◌<◌, ◌≤◌, Bool, true, false, cond, not, ◌&&◌, ◌≡◌, eqb, leb, ltb}
+use Rattle.std.specs.Prelude.{ℕ, ◌+◌, ◌-◌, ◌/◌, ◌^◌, ◌<◌, ◌≤◌, Bool, true, false, cond, not, ◌&&◌, ◌≡◌, eqb, leb, ltb, Option, None, Some}
 use Rattle.std.proofs.Common.{arith, div-one, sym, ◌∙◌, ap, ap₂, ltb-true, ltb-false, leb-true, le-leb, eqb-true}
-use Rattle.std.proofs.Math.Option.{Option, none, some}
 use Rattle.std.proofs.Math.Dec.{leb-zero}
+use Rattle.std.specs.Option.{option_or}
 use Rattle.std.specs.Int.Count.{ones, count_trailing_zeros}
 use Rattle.std.proofs.lemmas.Nat.{shr_le}
 use Rattle.laws.specs.Search.{least_below}
@@ -16,22 +16,22 @@ use Rattle.jobset.specs.JobSetLaws.{has_low, has_high, has_beyond}
 
 -- The lowest is in the set and no job before it is, and there is none exactly for an empty set.
 
-pub lowest_has : (set : JobSet) (j : ℕ) → lowest_of set ≡ some j → has_job set j ≡ true
+pub lowest_has : (set : JobSet) (j : ℕ) → lowest_of set ≡ Some j → has_job set j ≡ true
 unfolding lowest_of
 lowest_has set j e = (some_least 128 j (has_job set) e).holds
 
-pub lowest_first : (set : JobSet) (j i : ℕ) → lowest_of set ≡ some j → i < j → has_job set i ≡ false
+pub lowest_first : (set : JobSet) (j i : ℕ) → lowest_of set ≡ Some j → i < j → has_job set i ≡ false
 unfolding lowest_of
 lowest_first set j i e h = (some_least 128 j (has_job set) e).before i h
 
-pub lowest_none : (set : JobSet) → lowest_of set ≡ none → (i : ℕ) → has_job set i ≡ false
+pub lowest_none : (set : JobSet) → lowest_of set ≡ None → (i : ℕ) → has_job set i ≡ false
 unfolding lowest_of
 lowest_none set e i =
     if-or (ltb i 128)
     (λ t. none_fails 128 (has_job set) e i (ltb-true i 128 t))
     (λ f. has_beyond set i (ltb-false i 128 f))
 
-pub none_lowest : (set : JobSet) → ((i : ℕ) → has_job set i ≡ false) → lowest_of set ≡ none
+pub none_lowest : (set : JobSet) → ((i : ℕ) → has_job set i ≡ false) → lowest_of set ≡ None
 unfolding lowest_of
 none_lowest set f = least_none 128 (has_job set) (λ i l. f i)
 
@@ -67,31 +67,31 @@ pub next_first : (set : JobSet) → next_of set 0 ≡ lowest_of set
 unfolding next_of lowest_of
 next_first set = λ k. least_below 128 (λ i. (ap (λ (t : Bool). t && has_job set i) (leb-zero i)) k)
 
-pub next_has : (set : JobSet) (j k : ℕ) → next_of set j ≡ some k → (j ≤ k) × (k < 128) × (has_job set k ≡ true)
+pub next_has : (set : JobSet) (j k : ℕ) → next_of set j ≡ Some k → (j ≤ k) × (k < 128) × (has_job set k ≡ true)
 unfolding next_of
 next_has set j k e =
     let l = some_least 128 k (λ i. leb j i && has_job set i) e in
     (leb-true j k (and_left (leb j k) (has_job set k) l.holds), l.below, and_right (leb j k) (has_job set k) l.holds)
 
-pub next_gap : (set : JobSet) (j k i : ℕ) → next_of set j ≡ some k → j ≤ i → i < k → has_job set i ≡ false
+pub next_gap : (set : JobSet) (j k i : ℕ) → next_of set j ≡ Some k → j ≤ i → i < k → has_job set i ≡ false
 unfolding next_of
 next_gap set j k i e h l = rw (le-leb j i h) at ((some_least 128 k (λ i. leb j i && has_job set i) e).before i l)
 
-pub next_none : (set : JobSet) (j i : ℕ) → next_of set j ≡ none → j ≤ i → has_job set i ≡ false
+pub next_none : (set : JobSet) (j i : ℕ) → next_of set j ≡ None → j ≤ i → has_job set i ≡ false
 unfolding next_of
 next_none set j i e h =
     if-or (ltb i 128)
     (λ t. rw (le-leb j i h) at (none_fails 128 (λ i. leb j i && has_job set i) e i (ltb-true i 128 t)))
     (λ f. has_beyond set i (ltb-false i 128 f))
 
-none_next : (set : JobSet) (j : ℕ) → ((i : ℕ) → j ≤ i → has_job set i ≡ false) → next_of set j ≡ none
+none_next : (set : JobSet) (j : ℕ) → ((i : ℕ) → j ≤ i → has_job set i ≡ false) → next_of set j ≡ None
 unfolding next_of
 none_next set j f =
     least_none 128 (λ i. leb j i && has_job set i)
     (λ i l. if-or (leb j i) (λ t. rw t (f i (leb-true j i t))) (λ e. rw e))
 
 next_is : (set : JobSet) (j k : ℕ) → j ≤ k → has_job set k ≡ true → ((i : ℕ) → j ≤ i → i < k → has_job set i ≡ false)
-    → next_of set j ≡ some k
+    → next_of set j ≡ Some k
 unfolding next_of
 next_is set j k h t gap =
     least_is 128 k (λ i. leb j i && has_job set i)
@@ -105,7 +105,7 @@ next_is set j k h t gap =
 word_next : (set : JobSet) (w j first : ℕ) → w < 2 ^ 64 → j ≤ first
     → ((i : ℕ) → j ≤ i → i < first → has_job set i ≡ false)
     → ((i : ℕ) → i ≤ count_trailing_zeros 64 w → has_job set (first + i) ≡ bit w i)
-    → eqb w 0 ≡ false → next_of set j ≡ some (first + count_trailing_zeros 64 w)
+    → eqb w 0 ≡ false → next_of set j ≡ Some (first + count_trailing_zeros 64 w)
 word_next set w j first h le gap same f =
     let z = count_trailing_zeros 64 w in
     next_is set j (first + z) (omega arith) (same z (omega arith) ∙ trailing_lowest 64 w h f)
@@ -119,7 +119,7 @@ word_next set w j first h le gap same f =
 
 -- The words as the code asks them: the least job of one whose bit 0 stands for job `first`.
 abbrev pub least_in : ℕ → ℕ → Option ℕ
-least_in w first = cond (eqb w 0) none (some (first + count_trailing_zeros 64 w))
+least_in w first = cond (eqb w 0) None (Some (first + count_trailing_zeros 64 w))
 
 -- A word is shifted so that the bit of job j comes first. What a shift leaves fits the word.
 left_fits : (w j : ℕ) → w < 2 ^ 64 → w / 2 ^ j < 2 ^ 64
@@ -182,10 +182,23 @@ next_past_low set j h l e =
     λ k a b. has_low set k b ∙ clear_from set.low j k (ap not e) a in
     rw div-one at (high_next set 0 j h (omega arith) gap)
 
+-- As the code asks them: the low word from job j on, and then the high word.
+pub next_words : (set : JobSet) (j : ℕ) → set.low < 2 ^ 64 → set.high < 2 ^ 64 → j < 64
+    → option_or (least_in (set.low / 2 ^ j) j) (least_in set.high 64) ≡ next_of set j
+next_words set j h l b =
+    if-or (eqb (set.low / 2 ^ j) 0)
+    (λ e. rw e (next_past_low set j l b e))
+    (λ f. rw f (rw f at (next_low set j h f)))
+
 pub next_high : (set : JobSet) (j : ℕ) → set.high < 2 ^ 64 → 64 ≤ j → least_in (set.high / 2 ^ (j - 64)) j ≡ next_of set j
 next_high set j h l =
     let sum : 64 + (j - 64) ≡ j = omega arith in
     rw sum at (high_next set (j - 64) j h (omega arith) (λ k a b. absurd (omega arith)))
 
-pub next_beyond : (set : JobSet) (j : ℕ) → 128 ≤ j → next_of set j ≡ none
+pub next_beyond : (set : JobSet) (j : ℕ) → 128 ≤ j → next_of set j ≡ None
 next_beyond set j h = none_next set j (λ i a. has_beyond set i (omega arith))
+
+-- What the code counts and finds.
+pub ruleset sizing = (size_words, size_limit)
+
+pub ruleset next_found = (next_words, next_high, next_beyond)

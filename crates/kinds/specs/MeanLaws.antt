@@ -1,10 +1,10 @@
 -- The mean (R16) is what the rule's words ask for: the whole number nearest to half of the sum and, of two that are equally
 -- near, the one farther from zero. And no other number is.
-use Rattle.std.specs.Prelude.{ℕ, zero, suc, ◌+◌, ◌-◌, ◌/◌, ◌≤◌, ◌<◌, ◌≡◌, refl, Bool, true, false, cond, ltb, ℤ, pos, negsuc, neg_ℤ, nat_abs, ◌+ℤ◌, ◌-ℤ◌}
+use Rattle.std.specs.Prelude.{ℕ, zero, suc, ◌+◌, ◌-◌, ◌/◌, ◌≤◌, ◌<◌, ◌≡◌, refl, Bool, true, false, cond, ltb, min, ℤ, pos, negsuc, neg_ℤ, nat_abs, ◌+ℤ◌, ◌-ℤ◌}
 use Rattle.std.proofs.Common.{le_antisymm, arith, sym, ◌∙◌, ap, true≢false, ltb-true, ltb-false, SFits}
 use Rattle.std.proofs.Math.IntN.{neg_ℤ-neg_ℤ, neg_ℤ-+ℤ}
 use Rattle.std.specs.Int.Signed.{mag, lt_z, quot_z}
-use Rattle.std.specs.Int.{w32, w64}
+use Rattle.std.specs.Int.{w32, w64, int_signum}
 use Rattle.laws.specs.Signed.{mag_add}
 use Rattle.kinds.specs.Kinds.{half_up, halved, mean_of}
 
@@ -85,7 +85,7 @@ only_half (negsuc s) m p = sym (neg_ℤ-neg_ℤ m) ∙ ap neg_ℤ (only_above (s
 pub only_mean : (b c m : ℤ) → IsHalf (b +ℤ c) m → m ≡ mean_of b c
 only_mean b c m p = only_half (b +ℤ c) m p
 
--- How it is computed: a step away from zero, and then a division, which goes towards zero.
+-- How it can be computed: a step away from zero, and then a division, which goes towards zero.
 abbrev pub outward : ℤ → ℤ
 outward z = cond (lt_z z (pos 0)) (negsuc 0) (pos 1)
 
@@ -99,6 +99,14 @@ by_division false (negsuc n) h = absurd (true≢false h)
 
 pub halved_by_division : (z : ℤ) → quot_z (z +ℤ outward z) (pos 2) ≡ halved z
 halved_by_division z = by_division (lt_z z (pos 0)) z refl
+
+-- At zero no step does as well, so that the sign of the sum is a step.
+pub halved_by_sign : (z : ℤ) → quot_z (z +ℤ int_signum z) (pos 2) ≡ halved z
+halved_by_sign (pos zero) = refl
+halved_by_sign (pos (suc n)) =
+    let one : min (suc n) 1 ≡ 1 = omega arith in
+    rw one
+halved_by_sign (negsuc n) = halved_by_division (negsuc n)
 
 -- The step fits 64 bits, and the mean of two 32-bit numbers 32 bits again.
 small : (t : Bool) → mag (cond t (negsuc 0) (pos 1)) ≤ 1

@@ -4,10 +4,10 @@
 ghost use Rattle.std.specs.Prelude.{◌≡◌};
 ghost use Rattle.kinds.specs.Kinds.{shifted, is_spike, is_below, mean_of, exceeds, reported, sure_write, uncertain_write, ordered, refused, result_of};
 
-/// The lowest height there is.
-const LOWEST: i32 = -2147483648;
-/// The highest height there is.
-const HIGHEST: i32 = 2147483647;
+use refusal::Refusal;
+
+// A kind is a byte of the C record `Job`, and the record below is one too: an enum would be made of the byte for one match.
+
 /// The kind that writes the parameter.
 pub const SET: u8 = 1;
 /// The kind that moves a height by the parameter.
@@ -20,8 +20,6 @@ pub const FLOOR: u8 = 4;
 pub const MEAN: u8 = 5;
 /// The kind that puts two heights in ascending order.
 pub const PAIR: u8 = 6;
-/// The refusal where the result of a kind outside 1 to 6 is asked for.
-pub const NO_SUCH_KIND: u8 = 8;
 
 /// What a job of some kind reports: one value for each access, and whether its uncertain writes took place (1) or not (0).
 #[repr(C)]
@@ -32,31 +30,19 @@ pub struct Outcome {
     pub wrote: u8,
 }
 
-/// The height moved by the parameter. The sum is taken in 64 bits, where it cannot pass an end.
+/// The height moved by the parameter, and held at the ends of the range.
 pub fn shift(height: i32, parameter: i32) -> i32
     ensures { result ≡ shifted height parameter }
 {
-    let sum = (height as i64) + (parameter as i64);
-    if (HIGHEST as i64) < sum {
-        return HIGHEST;
-    }
-    if sum < (LOWEST as i64) {
-        return LOWEST;
-    }
-    sum as i32
+    height.saturating_add(parameter)
 }
 
-/// Whether the heights are further apart than the parameter. Two heights can be nearly 2^32 apart, so 32 bits do not do.
+/// Whether the heights are further apart than the parameter. Two heights can be nearly 2^32 apart, and a parameter below 0, so
+/// that the two are compared in 64 bits.
 pub fn is_spike(height: i32, beside: i32, parameter: i32) -> bool
     ensures { result ≡ is_spike height beside parameter }
 {
-    let a = height as i64;
-    let b = beside as i64;
-    let most = parameter as i64;
-    if a < b {
-        return most < b - a;
-    }
-    most < a - b
+    i64::from(parameter) < i64::from(height.abs_diff(beside))
 }
 
 /// Whether the height is below the floor.
@@ -70,9 +56,8 @@ pub fn is_below(height: i32, floor: i32) -> bool
 pub fn mean(left: i32, right: i32) -> i32
     ensures { result ≡ mean_of left right }
 {
-    let sum = (left as i64) + (right as i64);
-    let away = if sum < 0 { -1 } else { 1 };
-    ((sum + away) / 2) as i32
+    let sum = i64::from(left) + i64::from(right);
+    ((sum + sum.signum()) / 2) as i32
 }
 
 /// Whether the first height of a pair is above the second, so that they are to be exchanged.
@@ -107,11 +92,13 @@ fn uncertain_write(handed: [i32; 4], happens: bool, height: i32) -> Outcome
     ensures { result ≡ uncertain_write handed happens height }
 {
     if happens {
-        let mut values = handed;
-        values[0] = height;
-        return report(values, 1);
+        Outcome {
+            wrote: 1,
+            ..sure_write(handed, height)
+        }
+    } else {
+        report(handed, 0)
     }
-    report(handed, 0)
 }
 
 /// The first two places in ascending order; the rest as handed.
@@ -122,9 +109,10 @@ fn in_order(handed: [i32; 4], first: i32, second: i32) -> Outcome
         let mut values = handed;
         values[0] = second;
         values[1] = first;
-        return report(values, 1);
+        report(values, 1)
+    } else {
+        report(handed, 0)
     }
-    report(handed, 0)
 }
 
 /// No result; the values go back as handed.
@@ -132,7 +120,7 @@ fn refuse(handed: [i32; 4]) -> Outcome
     ensures { result ≡ refused handed }
 {
     Outcome {
-        refusal: NO_SUCH_KIND,
+        refusal: Refusal::Kind as u8,
         values: handed,
         wrote: 0,
     }
@@ -140,12 +128,11 @@ fn refuse(handed: [i32; 4]) -> Outcome
 
 /// R18: what a job of the kind reports of the values handed to it.
 /// Kind 0 is refused because its result is the worker's own, and a kind above 6 because there is none.
+#[tactic(auto, unfolding(crate::specs::Kinds::result_of, crate::specs::Kinds::table_of))]
 pub fn result(kind: u8, parameter: i32, handed: [i32; 4]) -> Outcome
     ensures { result ≡ result_of kind parameter handed }
 {
-    let a = handed[0];
-    let b = handed[1];
-    let c = handed[2];
+    let [a, b, c, _] = handed;
     match kind {
         SET => sure_write(handed, parameter),
         SHIFT => sure_write(handed, shift(a, parameter)),

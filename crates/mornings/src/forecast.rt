@@ -1,53 +1,54 @@
 //! A forecast: the table's job does not wait for the shift before it, since the height that the shift will leave is predicted.
 
-use crate::{jobs, tell};
-use engine::Batch;
+use crate::jobs;
+use crate::tell::Told;
+use say::Run;
+use std::io;
 
 /// The shift's job number.
 const SHIFT: usize = 0;
 /// The table's job number: it adds 5.
 const TABLE: usize = 1;
 
-/// The two jobs inserted and sealed.
-fn planned(insert_table: &[u8], predicted: i32) -> Batch {
-    let opened = tell::open(&[1500]);
-    let shifted = tell::insert(opened, b"insert shift 20 on cell 0: ", jobs::shift(0, 20));
-    tell::seal(tell::insert(shifted, insert_table, jobs::forecast(predicted)))
-}
-
-/// Up to the report of the shift: by then the table has been guessed.
-fn guessed(planned: Batch, guess: i32) -> Batch {
-    let shifting = tell::start_own(planned, SHIFT);
-    let guessing = tell::start_guess(shifting, TABLE);
-    let guessed = tell::report_guess_height(guessing, TABLE, guess);
-    tell::report_own(guessed, SHIFT)
-}
-
-fn ended(batch: Batch) {
-    tell::cell(batch, 0);
-    tell::job(batch, SHIFT);
-    tell::job(batch, TABLE);
+/// Up to the report of the shift: by then the table has been guessed, with the height predicted.
+fn guessed<'a, P: Print>(
+    rt: &'a P,
+    insert_table: &str,
+    predicted: i32,
+    guess: i32,
+) -> io::Result<Told<'a, P>> {
+    let mut day = Told::open(rt, &[1500])?;
+    day.insert("shift 20 on cell 0", jobs::shift(0, 20))?;
+    day.insert(insert_table, jobs::forecast(predicted))?;
+    day.seal()?;
+    day.start(Run::Own, SHIFT)?;
+    day.start(Run::Guess, TABLE)?;
+    day.report_height(Run::Guess, TABLE, guess)?;
+    day.report(Run::Own, SHIFT)?;
+    Ok(day)
 }
 
 /// The shift leaves what was predicted, and the guess is taken over.
-fn right() {
-    say::text(b"# a right forecast\n");
-    let planned = planned(b"insert an outside job on cell 0, predicted 1520: ", 1520);
-    let shifted = guessed(planned, 1525);
-    ended(tell::settle(shifted, TABLE));
+fn right(rt: &impl Print) -> io::Result<()> {
+    println!(rt; "# a right forecast")?;
+    let table = "an outside job on cell 0, predicted 1520";
+    let mut day = guessed(rt, table, 1520, 1525)?;
+    day.settle(TABLE)?;
+    day.ended(1, 2)
 }
 
 /// It does not, and the table's job runs again.
-fn wrong() {
-    say::text(b"# a wrong forecast\n");
-    let planned = planned(b"insert an outside job on cell 0, predicted 1510: ", 1510);
-    let shifted = guessed(planned, 1515);
-    let refused = tell::settle(shifted, TABLE);
-    let again = tell::start_own(refused, TABLE);
-    ended(tell::report_own_height(again, TABLE, 1525));
+fn wrong(rt: &impl Print) -> io::Result<()> {
+    println!(rt; "# a wrong forecast")?;
+    let table = "an outside job on cell 0, predicted 1510";
+    let mut day = guessed(rt, table, 1510, 1515)?;
+    day.settle(TABLE)?;
+    day.start(Run::Own, TABLE)?;
+    day.report_height(Run::Own, TABLE, 1525)?;
+    day.ended(1, 2)
 }
 
-pub fn mornings() {
-    right();
-    wrong();
+pub fn mornings(rt: &impl Print) -> io::Result<()> {
+    right(rt)?;
+    wrong(rt)
 }

@@ -1,64 +1,46 @@
-//! The jobs of the mornings.
+//! The jobs of the mornings. The places that are not in use hold a read of cell 0.
 
-use dependence::{Access, Job, PREDICTED_WRITE, READ, UNCERTAIN_WRITE, WRITE};
+use dependence::{Job, PREDICTED_WRITE, READ, UNCERTAIN_WRITE, WRITE};
+use kinds::{FLOOR, MEAN, SHIFT, SPIKE};
+use sample::{access, job};
 
-/// A job of the kind with these accesses, of which the first `arity` are in use.
-fn of_kind(kind: u8, parameter: i32, arity: u8, a: Access, b: Access, c: Access) -> Job {
-    let unused = Access {
-        cell: 0,
-        mode: READ,
-    };
-    Job {
+/// A job of the kind with one access.
+fn of_one(kind: u8, parameter: i32, cell: u8, mode: u8) -> Job {
+    let unused = access(0, READ);
+    job(
         kind,
-        arity,
-        accesses: [a, b, c, unused],
         parameter,
-        predicted: [0; 4],
-    }
-}
-
-fn read(cell: u8) -> Access {
-    Access { cell, mode: READ }
-}
-
-fn write(cell: u8) -> Access {
-    Access { cell, mode: WRITE }
-}
-
-fn maybe_write(cell: u8) -> Access {
-    Access {
-        cell,
-        mode: UNCERTAIN_WRITE,
-    }
+        1,
+        [access(cell, mode), unused, unused, unused],
+    )
 }
 
 /// Puts the height of cell 1 into cell 0 if they are more than 1000 apart.
 pub fn spike() -> Job {
-    of_kind(kinds::SPIKE, 1000, 2, maybe_write(0), read(1), read(0))
+    let unused = access(0, READ);
+    let accesses = [access(0, UNCERTAIN_WRITE), access(1, READ), unused, unused];
+    job(SPIKE, 1000, 2, accesses)
 }
 
 /// Moves the height of the cell.
 pub fn shift(cell: u8, by: i32) -> Job {
-    of_kind(kinds::SHIFT, by, 1, write(cell), read(0), read(0))
+    of_one(SHIFT, by, cell, WRITE)
 }
 
 /// Raises cell 0 to 1400.
 pub fn floor() -> Job {
-    of_kind(kinds::FLOOR, 1400, 1, maybe_write(0), read(0), read(0))
+    of_one(FLOOR, 1400, 0, UNCERTAIN_WRITE)
 }
 
 /// Puts the mean of cells 0 and 1 into cell 2.
 pub fn mean() -> Job {
-    of_kind(kinds::MEAN, 0, 3, write(2), read(0), read(1))
+    let read = access(0, READ);
+    job(MEAN, 0, 3, [access(2, WRITE), read, access(1, READ), read])
 }
 
 /// An outside job that writes cell 0, and predicts the height that it will find there.
 pub fn forecast(height: i32) -> Job {
-    let predicted_write = Access {
-        cell: 0,
-        mode: PREDICTED_WRITE,
-    };
-    let mut job = of_kind(0, 0, 1, predicted_write, read(0), read(0));
-    job.predicted = [height, 0, 0, 0];
+    let mut job = of_one(0, 0, 0, PREDICTED_WRITE);
+    job.predicted[0] = height;
     job
 }

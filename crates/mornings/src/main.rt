@@ -8,11 +8,18 @@ mod late;
 mod tell;
 mod week;
 
-fn main() {
-    week::what_to_look_for();
-    week::monday();
-    week::thursday();
-    chosen::morning();
-    late::morning();
-    forecast::mornings();
+use std::io;
+
+fn lines(rt: &impl Print) -> io::Result<()> {
+    week::what_to_look_for(rt)?;
+    week::monday(rt)?;
+    week::thursday(rt)?;
+    chosen::morning(rt)?;
+    late::morning(rt)?;
+    forecast::mornings(rt)
+}
+
+fn main(rt: HostRuntime) {
+    // where the output is closed, there is nobody to tell
+    let _ = lines(&rt);
 }

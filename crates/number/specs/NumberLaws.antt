@@ -1,12 +1,9 @@
 -- Laws of the numbers in fields: their bounds, and what a loop over the digits meets.
-use Rattle.std.specs.Prelude.{ℕ, ◌+◌, ◌*◌, ◌-◌, ◌<◌, ◌≤◌, Bool, true, false, cond, ◌&&◌, List, [], ◌∷◌, ◌≡◌, refl, eqb, leb, length, get_or, drop}
+use Rattle.std.specs.Prelude.{Option, Some, None, ℕ, ◌+◌, ◌*◌, ◌-◌, ◌<◌, ◌≤◌, Bool, true, false, cond, ◌&&◌, List, [], ◌∷◌, ◌≡◌, refl, eqb, leb, length, get_or, drop}
 use Rattle.std.proofs.Common.{add-one, arith, sym, ◌∙◌, drop_of_length-le, leb-true, le-leb}
 use Rattle.std.proofs.Math.Seq.{drop-cons}
 use Rattle.std.proofs.lemmas.Bool.{lt-leb}
 use Rattle.laws.specs.SearchLaws.{and_right}
-use Rattle.number.specs.declared.Natural.{Natural}
-use Rattle.number.specs.declared.Natural.TheVariants as natural
-use Rattle.number.specs.declared.Number.TheVariants as number
 use Rattle.number.specs.Numbers.{
   zero_digit,
   nine_digit,
@@ -26,23 +23,23 @@ use Rattle.number.specs.Numbers.{
 }
 
 -- A value that is given only where a test holds.
-only_where : (t : Bool) (value : ℕ) {v : ℕ} → cond t (natural.Is value) natural.Not ≡ natural.Is v → (t ≡ true) × (value ≡ v)
+only_where : (t : Bool) (value : ℕ) {v : ℕ} → cond t (Some value) None ≡ Some v → (t ≡ true) × (value ≡ v)
 only_where true value e = (refl, cc)
 only_where false value e = let z : ◌≡◌ {A = ℕ} 0 1 = cc in absurd (omega arith)
 
 -- A number that is read is at most the bound.
-pub natural_bounded : (most : ℕ) (field : List ℕ) {v : ℕ} → natural_up_to most field ≡ natural.Is v → v ≤ most
+pub natural_bounded : (most : ℕ) (field : List ℕ) {v : ℕ} → natural_up_to most field ≡ Some v → v ≤ most
 unfolding natural_up_to
 natural_bounded most field {v} e =
     let w = only_where (in_base_ten field && leb (value_of field) most) (value_of field) e in
     omega (arith, w.1, leb-true (value_of field) most (and_right (in_base_ten field) (leb (value_of field) most) w.0))
 
 -- The same for what a call has read.
-pub read_bounded : (most : ℕ) (field : List ℕ) {r : Natural} {v : ℕ} → r ≡ natural_up_to most field → r ≡ natural.Is v → v ≤ most
+pub read_bounded : (most : ℕ) (field : List ℕ) {r : Option ℕ} {v : ℕ} → r ≡ natural_up_to most field → r ≡ Some v → v ≤ most
 read_bounded most field e f = natural_bounded most field (sym e ∙ f)
 
 -- A count is at most 2147483647.
-pub count_bounded : (field : List ℕ) {v : ℕ} → count_of field ≡ natural.Is v → v ≤ 2147483647
+pub count_bounded : (field : List ℕ) {v : ℕ} → count_of field ≡ Some v → v ≤ 2147483647
 count_bounded field e = natural_bounded largest field e
 
 -- A byte below `0`, above `9`, and between them.
@@ -66,13 +63,13 @@ value_grows value (byte ∷ rest) = omega (arith, value_grows (value * 10 + (byt
 
 -- No byte is left.
 pub digits_end : (most value : ℕ) (field : List ℕ) (i : ℕ) → length field ≤ i → value ≤ most
-    → digits_up_to most value (drop i field) ≡ natural.Is value
+    → digits_up_to most value (drop i field) ≡ Some value
 unfolding digits_up_to all_digits value_after
 digits_end most value field i h k = rw (drop_of_length-le field h, le-leb value most k)
 
 module _ (most value : ℕ) (field : List ℕ) (i : ℕ) (h : i < length field) where
   -- The byte is no digit.
-  pub digits_other : is_digit (get_or field i 0) ≡ false → digits_up_to most value (drop i field) ≡ natural.Not
+  pub digits_other : is_digit (get_or field i 0) ≡ false → digits_up_to most value (drop i field) ≡ None
   unfolding digits_up_to all_digits value_after
   digits_other k = rw (drop-cons field i 0 h, k)
 
@@ -83,11 +80,11 @@ module _ (most value : ℕ) (field : List ℕ) (i : ℕ) (h : i < length field) 
   digits_more k = rw (add-one, drop-cons field i 0 h, k)
 
 -- The value is past the bound already.
-pub digits_over : (most value : ℕ) (bytes : List ℕ) → most < value → digits_up_to most value bytes ≡ natural.Not
+pub digits_over : (most value : ℕ) (bytes : List ℕ) → most < value → digits_up_to most value bytes ≡ None
 unfolding digits_up_to
 digits_over most value bytes h = rw (lt-leb (value_after value bytes) most (omega (arith, value_grows value bytes))) (never (all_digits bytes))
   where
-    never : (t : Bool) → cond (t && false) (natural.Is (value_after value bytes)) natural.Not ≡ natural.Not
+    never : (t : Bool) → cond (t && false) (Some (value_after value bytes)) None ≡ None
     never true = refl
     never false = refl
 
@@ -99,7 +96,7 @@ signed_first [] h = absurd (h refl)
 signed_first (first ∷ rest) h = refl
 
 -- An empty field.
-pub signed_empty : (field : List ℕ) → length field ≡ 0 → signed_of field ≡ number.Not
+pub signed_empty : (field : List ℕ) → length field ≡ 0 → signed_of field ≡ None
 unfolding signed_of
 signed_empty [] h = refl
 signed_empty (first ∷ rest) h = absurd (omega arith)

@@ -1,9 +1,5 @@
 -- R143: the number in a field, as a function of the field's bytes.
-use Rattle.std.specs.Prelude.{ℕ, ◌+◌, ◌*◌, ◌-◌, Bool, true, cond, not, ◌&&◌, List, [], ◌∷◌, eqb, leb, pos, neg_ℤ, length, get_or}
-use Rattle.number.specs.declared.Natural.{Natural}
-use Rattle.number.specs.declared.Natural.TheVariants as natural
-use Rattle.number.specs.declared.Number.{Number}
-use Rattle.number.specs.declared.Number.TheVariants as number
+use Rattle.std.specs.Prelude.{ℕ, ◌+◌, ◌*◌, ◌-◌, ℤ, Option, Some, None, Bool, true, cond, not, ◌&&◌, List, [], ◌∷◌, eqb, leb, pos, neg_ℤ, length, get_or}
 
 -- The bytes `0`, `9` and `-`.
 abbrev pub zero_digit : ℕ
@@ -49,37 +45,37 @@ abbrev pub in_base_ten : List ℕ → Bool
 in_base_ten field = not (eqb (length field) 0) && (not (has_leading_zero field) && all_digits field)
 
 -- The number whose digits are those of a value and the bytes that follow, where these are digits and it is at most `most`.
-unfoldable pub digits_up_to : ℕ → ℕ → List ℕ → Natural
+unfoldable pub digits_up_to : ℕ → ℕ → List ℕ → Option ℕ
 digits_up_to most value bytes =
-    cond (all_digits bytes && leb (value_after value bytes) most) (natural.Is (value_after value bytes)) natural.Not
+    cond (all_digits bytes && leb (value_after value bytes) most) (Some (value_after value bytes)) None
 
 -- The number in a field without a sign, where it is at most `most`.
-unfoldable pub natural_up_to : ℕ → List ℕ → Natural
-natural_up_to most field = cond (in_base_ten field && leb (value_of field) most) (natural.Is (value_of field)) natural.Not
+unfoldable pub natural_up_to : ℕ → List ℕ → Option ℕ
+natural_up_to most field = cond (in_base_ten field && leb (value_of field) most) (Some (value_of field)) None
 
 -- The number in a field in which no sign is allowed, a count.
-abbrev pub count_of : List ℕ → Natural
+abbrev pub count_of : List ℕ → Option ℕ
 count_of field = natural_up_to largest field
 
 -- A magnitude with a minus sign in front; there is no minus zero.
-abbrev pub negated : Natural → Number
-negated natural.Not = number.Not
-negated (natural.Is value) = cond (eqb value 0) number.Not (number.Is (neg_ℤ (pos value)))
+abbrev pub negated : Option ℕ → Option ℤ
+negated None = None
+negated (Some value) = cond (eqb value 0) None (Some (neg_ℤ (pos value)))
 
 -- A magnitude with no sign.
-abbrev pub unsigned : Natural → Number
-unsigned natural.Not = number.Not
-unsigned (natural.Is value) = number.Is (pos value)
+abbrev pub unsigned : Option ℕ → Option ℤ
+unsigned None = None
+unsigned (Some value) = Some (pos value)
 
 -- The number whose digits stand after a minus sign.
-unfoldable pub negative_of : List ℕ → Number
+unfoldable pub negative_of : List ℕ → Option ℤ
 negative_of digits = negated (natural_up_to smallest_negated digits)
 
 -- The number whose digits stand alone.
-unfoldable pub unsigned_of : List ℕ → Number
+unfoldable pub unsigned_of : List ℕ → Option ℤ
 unsigned_of digits = unsigned (natural_up_to largest digits)
 
 -- The number in a field in which a minus sign is allowed, a height or p.
-unfoldable pub signed_of : List ℕ → Number
-signed_of [] = number.Not
+unfoldable pub signed_of : List ℕ → Option ℤ
+signed_of [] = None
 signed_of (first ∷ rest) = cond (eqb first minus_sign) (negative_of rest) (unsigned_of (first ∷ rest))

@@ -1,5 +1,5 @@
 -- P8's plan, as the definition reads it.
-use Rattle.std.specs.Prelude.{ℕ, List, [], ◌∷◌, ◌≡◌, refl, pos, replicate}
+use Rattle.std.specs.Prelude.{ℕ, None, List, [], ◌∷◌, ◌≡◌, refl, pos, replicate}
 use Rattle.laws.specs.Search.{any_below}
 use Rattle.laws.specs.Refusal.{first_of}
 use Rattle.text.specs.Pieces.{pieces}
@@ -12,6 +12,7 @@ use Rattle.admission.specs.Admission.{job_refusal}
 use Rattle.jobset.specs.JobSet.{bit, has_job, reaches_to}
 use Rattle.engine.specs.Form.{job_out, in_form}
 use Rattle.engine.specs.Opening.{opened, with_inserted, inserted, with_sealed, sealed_with}
+use Rattle.plan.specs.declared.Part.TheVariants as part
 use Rattle.plan.specs.Lines.{cell_line_of, cell_field_of, job_with, job_line_of}
 use Rattle.plan.specs.Plan.{start, with_height, answered, cell_names_read, job_names_read, cell_read, cell_part_read, job_read, job_part_read, switch_read, step_names_read, step_read, line_read, ended, lines_read, plan_of}
 
@@ -61,9 +62,8 @@ shift_job =
 pub example_plan_read :
     plan_of example_plan
     ≡ record {
-      part = 5;
-      fault = 0;
-      line = 0;
+      part = part.Steps;
+      fault = None;
       heights = pos 1500 ∷ pos 1480 ∷ replicate 62 (pos 0);
       cell_count = 2;
       batch = with_sealed (with_inserted (with_inserted (opened (pos 1500 ∷ pos 1480 ∷ [])).batch floor_job) shift_job) 1;

@@ -1,33 +1,33 @@
 -- Lines and plans, computed from the definitions; above each stands the line as text.
-use Rattle.std.specs.Prelude.{ℕ, true, [], ◌∷◌, ◌≡◌, refl, ℤ, pos, negsuc}
+use Rattle.std.specs.Prelude.{ℕ, Option, Some, None, [], ◌∷◌, ◌≡◌, refl, ℤ, pos, negsuc}
 use Rattle.text.specs.Pieces.{pieces}
 use Rattle.text.specs.SameText.{same_text}
 use Rattle.number.specs.Numbers.{all_digits, value_after, has_leading_zero, natural_up_to, negative_of, unsigned_of, signed_of}
 use Rattle.dependence.specs.declared.Access.{Access}
 use Rattle.dependence.specs.Job.{no_access, no_predictions}
-use Rattle.plan.specs.declared.job_lines.JobLine.{JobLine}
-use Rattle.plan.specs.Lines.{no_cell, no_job_line, cell_line_of, cell_field_of, job_with, job_line_of}
+use Rattle.dependence.specs.declared.Job.{Job}
+use Rattle.plan.specs.Lines.{cell_line_of, cell_field_of, job_with, job_line_of}
 use Rattle.plan.specs.Plan.{start, out_of_form, next_part, cell_names_read, line_read, ended, lines_read, plan_of}
 
 -- Cell lines.
 
 -- `1 -1480`
-pub cell_line : cell_line_of (49 ∷ 32 ∷ 45 ∷ 49 ∷ 52 ∷ 56 ∷ 48 ∷ []) ≡ record { ok = true; cell = 1; height = negsuc 1479 }
+pub cell_line : cell_line_of (49 ∷ 32 ∷ 45 ∷ 49 ∷ 52 ∷ 56 ∷ 48 ∷ []) ≡ Some (record { cell = 1; height = negsuc 1479 })
 unfolding cell_line_of pieces has_leading_zero all_digits value_after natural_up_to negative_of unsigned_of signed_of
 cell_line = refl
 
 -- `1`
-pub no_height : cell_line_of (49 ∷ []) ≡ no_cell
+pub no_height : cell_line_of (49 ∷ []) ≡ None
 unfolding cell_line_of pieces has_leading_zero all_digits value_after natural_up_to negative_of unsigned_of signed_of
 no_height = refl
 
 -- `1  1480`
-pub two_spaces : cell_line_of (49 ∷ 32 ∷ 32 ∷ 49 ∷ 52 ∷ 56 ∷ 48 ∷ []) ≡ no_cell
+pub two_spaces : cell_line_of (49 ∷ 32 ∷ 32 ∷ 49 ∷ 52 ∷ 56 ∷ 48 ∷ []) ≡ None
 unfolding cell_line_of pieces has_leading_zero all_digits value_after natural_up_to negative_of unsigned_of signed_of
 two_spaces = refl
 
 -- `-1 1480`
-pub minus_cell : cell_line_of (45 ∷ 49 ∷ 32 ∷ 49 ∷ 52 ∷ 56 ∷ 48 ∷ []) ≡ no_cell
+pub minus_cell : cell_line_of (45 ∷ 49 ∷ 32 ∷ 49 ∷ 52 ∷ 56 ∷ 48 ∷ []) ≡ None
 unfolding cell_line_of pieces has_leading_zero all_digits value_after natural_up_to negative_of unsigned_of signed_of
 minus_cell = refl
 
@@ -35,19 +35,17 @@ minus_cell = refl
 
 -- A line in form, by its kind, parameter, arity and first three accesses; an access by its cell and mode.
 
-abbrev asks : ℕ → ℤ → ℕ → Access → Access → Access → JobLine
+abbrev asks : ℕ → ℤ → ℕ → Access → Access → Access → Option Job
 asks kind p arity a b c =
+    Some (
     record {
-      ok = true;
-      job =
-          record {
-            kind = kind;
-            arity = arity;
-            accesses = a ∷ b ∷ c ∷ no_access ∷ [];
-            parameter = p;
-            predicted = no_predictions;
-          };
+      kind = kind;
+      arity = arity;
+      accesses = a ∷ b ∷ c ∷ no_access ∷ [];
+      parameter = p;
+      predicted = no_predictions;
     }
+    )
 
 abbrev on : ℕ → ℕ → Access
 on cell mode = record { cell = cell; mode = mode }
@@ -73,27 +71,27 @@ unfolding job_line_of cell_field_of job_with same_text pieces has_leading_zero a
 no_cells_given = refl
 
 -- `0 7 0 - -`
-pub kind_zero : job_line_of (48 ∷ 32 ∷ 55 ∷ 32 ∷ 48 ∷ 32 ∷ 45 ∷ 32 ∷ 45 ∷ []) ≡ no_job_line
+pub kind_zero : job_line_of (48 ∷ 32 ∷ 55 ∷ 32 ∷ 48 ∷ 32 ∷ 45 ∷ 32 ∷ 45 ∷ []) ≡ None
 unfolding job_line_of cell_field_of job_with same_text pieces has_leading_zero all_digits value_after natural_up_to negative_of unsigned_of signed_of
 kind_zero = refl
 
 -- `2 7 - 3 -`
-pub absent_first : job_line_of (50 ∷ 32 ∷ 55 ∷ 32 ∷ 45 ∷ 32 ∷ 51 ∷ 32 ∷ 45 ∷ []) ≡ no_job_line
+pub absent_first : job_line_of (50 ∷ 32 ∷ 55 ∷ 32 ∷ 45 ∷ 32 ∷ 51 ∷ 32 ∷ 45 ∷ []) ≡ None
 unfolding job_line_of cell_field_of job_with same_text pieces has_leading_zero all_digits value_after natural_up_to negative_of unsigned_of signed_of
 absent_first = refl
 
 -- `2 7 3 - 4`
-pub absent_between : job_line_of (50 ∷ 32 ∷ 55 ∷ 32 ∷ 51 ∷ 32 ∷ 45 ∷ 32 ∷ 52 ∷ []) ≡ no_job_line
+pub absent_between : job_line_of (50 ∷ 32 ∷ 55 ∷ 32 ∷ 51 ∷ 32 ∷ 45 ∷ 32 ∷ 52 ∷ []) ≡ None
 unfolding job_line_of cell_field_of job_with same_text pieces has_leading_zero all_digits value_after natural_up_to negative_of unsigned_of signed_of
 absent_between = refl
 
 -- `2 7 3 -`
-pub four_fields : job_line_of (50 ∷ 32 ∷ 55 ∷ 32 ∷ 51 ∷ 32 ∷ 45 ∷ []) ≡ no_job_line
+pub four_fields : job_line_of (50 ∷ 32 ∷ 55 ∷ 32 ∷ 51 ∷ 32 ∷ 45 ∷ []) ≡ None
 unfolding job_line_of cell_field_of job_with same_text pieces has_leading_zero all_digits value_after natural_up_to negative_of unsigned_of signed_of
 four_fields = refl
 
 -- `-2 7 3 - -`
-pub minus_kind : job_line_of (45 ∷ 50 ∷ 32 ∷ 55 ∷ 32 ∷ 51 ∷ 32 ∷ 45 ∷ 32 ∷ 45 ∷ []) ≡ no_job_line
+pub minus_kind : job_line_of (45 ∷ 50 ∷ 32 ∷ 55 ∷ 32 ∷ 51 ∷ 32 ∷ 45 ∷ 32 ∷ 45 ∷ []) ≡ None
 unfolding job_line_of cell_field_of job_with same_text pieces has_leading_zero all_digits value_after natural_up_to negative_of unsigned_of signed_of
 minus_kind = refl
 

@@ -1,6 +1,7 @@
 -- Laws of the reading.
-use Rattle.std.specs.Prelude.{ℕ, ◌+◌, ◌<◌, List, [], ◌∷◌, ◌≡◌, refl, length}
-use Rattle.std.proofs.Common.{arith, ne_eqb}
+use Rattle.std.specs.Prelude.{ℕ, ◌+◌, ◌<◌, true, List, [], ◌∷◌, ◌≡◌, refl, length}
+use Rattle.std.proofs.Common.{arith}
+use Rattle.std.specs.Option.{is_some}
 use Rattle.text.specs.Pieces.{pieces}
 use Rattle.text.proofs.PieceLaws.{some_piece}
 use Rattle.plan.specs.declared.Reading.{Reading}
@@ -18,8 +19,8 @@ read_next r n line separator bytes = go (pieces separator bytes) (some_piece sep
     go (next ∷ others) h = refl
 
 -- R150: a fault stays as it is, whatever lines follow.
-pub fault_stays : (r : Reading) (n : ℕ) (lines : List (List ℕ)) → (r.fault ≡ 0 → ⊥) → lines_read r n lines ≡ r
+pub fault_stays : (r : Reading) (n : ℕ) (lines : List (List ℕ)) → is_some r.fault ≡ true → lines_read r n lines ≡ r
 unfolding lines_read line_read ended
 fault_stays r n [] h = refl
-fault_stays r n (rest ∷ []) h = rw (ne_eqb _ _ h)
-fault_stays r n (line ∷ next ∷ others) h = rw (ne_eqb _ _ h) (fault_stays r (n + 1) (next ∷ others) h)
+fault_stays r n (rest ∷ []) h = rw h
+fault_stays r n (line ∷ next ∷ others) h = rw h (fault_stays r (n + 1) (next ∷ others) h)

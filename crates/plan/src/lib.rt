@@ -1,5 +1,5 @@
 //! The reader of plans: from the bytes of the input to a sealed batch, or to the first fault and its line.
-#![tactic(auto)]
+#![tactic(auto, using(crate::specs::PlanLaws::read_next), unfolding(crate::specs::Plan::lines_read))]
 
 ghost use Rattle.std.specs.Prelude.{◌≡◌};
 ghost use Rattle.plan.specs.Plan.{plan_of};
@@ -10,19 +10,31 @@ mod cell_lines;
 mod job_lines;
 mod line_by_line;
 
-/// The byte at the end of a line.
-const LINE_FEED: u8 = 10;
+/// What a line of a plan belongs to.
+#[derive(Clone, Copy, PartialEq, Eq, Debug)]
+pub enum Part {
+    CellNames,
+    Cells,
+    Jobs,
+    Switch,
+    StepNames,
+    Steps,
+}
+
+/// A fault of a plan: its number, and the line that has it, counted from 1.
+#[derive(Clone, Copy)]
+pub struct Fault {
+    pub number: u8,
+    pub line: usize,
+}
 
 /// The plan as far as it is read.
 #[derive(Clone, Copy)]
 pub struct Reading {
-    /// What the next line belongs to: 0 the names of the cells, 1 the cells, 2 the jobs, 3 the switch, 4 the names of
-    /// the steps, 5 the steps.
-    pub part: u8,
-    /// 0, or the number of the first fault.
-    pub fault: u8,
-    /// The line of the first fault, counted from 1; 0 while there is none.
-    pub line: usize,
+    /// What the next line belongs to.
+    pub part: Part,
+    /// The first fault, once there is one.
+    pub fault: Option<Fault>,
     /// The heights of the first 64 cell lines.
     pub heights: [i32; 64],
     /// How many cell lines there were.
@@ -38,16 +50,12 @@ pub fn read_plan(bytes: &[u8]) -> Reading
     ensures { result ≡ plan_of bytes.now }
 {
     let mut reading = Reading::new();
-    let mut at: usize = 0;
+    let mut rest = bytes;
     let mut n: usize = 1;
-    loop {
-        let stop = text::cut(bytes, at, LINE_FEED);
-        if stop == bytes.len() {
-            return reading.ended(&bytes[at..stop], n);
-        }
-        let next = reading.line_read(&bytes[at..stop], n);
-        reading = next;
-        at = stop + 1;
+    while let Some((line, after)) = text::split_once(rest, text::LINE_FEED) {
+        reading = reading.line_read(line, n);
+        rest = after;
         n += 1;
     }
+    reading.ended(rest, n)
 }

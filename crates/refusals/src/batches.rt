@@ -1,8 +1,8 @@
 //! Batches at the points where the calls are made.
 
 use crate::jobs;
-use dependence::{READ, UNCERTAIN_WRITE, WRITE};
-use engine::Batch;
+use dependence::{Job, READ, UNCERTAIN_WRITE, WRITE};
+use engine::{Batch, Report};
 
 /// A point of a batch.
 #[derive(Clone, Copy)]
@@ -39,94 +39,70 @@ pub enum Point {
 pub fn at(point: Point) -> Batch {
     match point {
         Point::Opened => opened(),
-        Point::SealedEmpty => with_seal(opened(), 1),
-        Point::SealedThenOne => with_job(with_seal(opened(), 1), jobs::floor()),
+        Point::SealedEmpty => opened().seal(1).batch,
+        Point::SealedThenOne => opened().seal(1).batch.insert(jobs::floor()).batch,
         Point::Unsealed => unsealed(),
-        Point::GuessingOff => sealed(0),
-        Point::Sealed => sealed(1),
+        Point::GuessingOff => unsealed().seal(0).batch,
+        Point::Sealed => sealed(),
         Point::OwnOut => own_out(),
         Point::GuessOut => guess_out(),
         Point::GuessStored => guess_stored(),
         Point::Standing => settled(0),
         Point::Fallen => settled(1),
-        Point::TakenOver => taken_over(),
-        Point::ThrownAway => thrown_away(),
+        Point::TakenOver => settled(0).commit(1).batch,
+        Point::ThrownAway => settled(1).start_own(1).batch,
     }
 }
 
 fn opened() -> Batch {
-    let heights = [1500i32, 1480, 1460, 1440];
-    let answer = Batch::open(&heights);
-    answer.batch
+    Batch::open(&[1500, 1480, 1460, 1440]).batch
 }
 
-fn with_job(batch: Batch, job: dependence::Job) -> Batch {
-    let answer = batch.insert(job);
-    answer.batch
-}
-
-pub fn with_seal(batch: Batch, switch: u8) -> Batch {
-    let answer = batch.seal(switch);
-    answer.batch
+fn with_jobs(jobs: &[Job]) -> Batch {
+    jobs.iter()
+        .fold(opened(), |batch, job| batch.insert(*job).batch)
 }
 
 /// With 127 jobs.
 pub fn nearly_full() -> Batch {
-    let mut batch = opened();
-    let mut n: usize = 0;
-    while n < 127 {
-        let next = with_job(batch, jobs::floor());
-        batch = next;
-        n += 1;
-    }
-    batch
+    with_jobs(&[jobs::floor(); 127])
 }
 
 /// Sealed, with four jobs of four accesses. In the fourth place they maybe-write, write, maybe-write and read.
 pub fn of_four() -> Batch {
-    let one = with_job(opened(), jobs::of_four(UNCERTAIN_WRITE));
-    let two = with_job(one, jobs::of_four(WRITE));
-    let three = with_job(two, jobs::of_four(UNCERTAIN_WRITE));
-    let four = with_job(three, jobs::of_four(READ));
-    with_seal(four, 1)
+    let modes = [UNCERTAIN_WRITE, WRITE, UNCERTAIN_WRITE, READ];
+    with_jobs(&modes.map(jobs::of_four)).seal(1).batch
 }
 
 fn unsealed() -> Batch {
-    let one = with_job(opened(), jobs::floor());
-    let two = with_job(one, jobs::shift());
-    with_job(two, jobs::shift())
+    with_jobs(&[jobs::floor(), jobs::shift(), jobs::shift()])
 }
 
-fn sealed(switch: u8) -> Batch {
-    with_seal(unsealed(), switch)
+fn sealed() -> Batch {
+    unsealed().seal(1).batch
+}
+
+/// The report of a height, by a job whose first access writes it.
+pub fn report(height: i32, wrote: u8) -> Report {
+    Report {
+        values: [height, 0, 0, 0],
+        wrote,
+    }
 }
 
 fn own_out() -> Batch {
-    let answer = sealed(1).start_own(0);
-    answer.batch
+    sealed().start_own(0).batch
 }
 
 fn guess_out() -> Batch {
-    let answer = own_out().start_speculation(1);
-    answer.batch
+    own_out().start_speculation(1).batch
 }
 
 fn guess_stored() -> Batch {
-    let answer = guess_out().report_speculation(1, [1520, 0, 0, 0], 0);
-    answer.batch
+    guess_out().report_speculation(1, report(1520, 0)).batch
 }
 
+/// Job 0 settled with the mark, below the stored guess of job 1.
 fn settled(mark: u8) -> Batch {
-    let answer = guess_stored().report_own(0, [1600, 0, 0, 0], mark);
-    answer.batch
-}
-
-fn taken_over() -> Batch {
-    let answer = settled(0).commit(1);
-    answer.batch
-}
-
-fn thrown_away() -> Batch {
-    let answer = settled(1).start_own(1);
-    answer.batch
+    guess_stored().report_own(0, report(1600, mark)).batch
 }

@@ -10,31 +10,38 @@ mod planner;
 mod reader;
 mod worker;
 
-fn what_to_look_for() {
-    say::text(b"# what to look for\n");
-    say::text(
-        b"A line is a call in words and what it answers: 0 if it is accepted, else the number of the refusal.\n",
-    );
-    say::text(
-        b"Where nothing else is said, a batch has 4 cells, guessing is on, and on cell 0 job 0 is a floor and jobs 1 and 2 are shifts.\n",
-    );
+use std::io;
+
+fn what_to_look_for(rt: &impl Print) -> io::Result<()> {
+    println!(rt; "# what to look for")?;
+    println!(rt;
+        "A line is a call in words and what it answers: 0 if it is accepted, else the number of the refusal."
+    )?;
+    println!(rt;
+        "Where nothing else is said, a batch has 4 cells, guessing is on, and on cell 0 job 0 is a floor and jobs 1 and 2 are shifts."
+    )
 }
 
-fn main() {
-    what_to_look_for();
-    planner::opening();
-    planner::inserting();
-    planner::of_a_job();
-    planner::sealing();
-    worker::before_any_run();
-    worker::too_early();
-    worker::too_late();
-    guesses::reports();
-    guesses::standing_and_fallen();
-    four_accesses::guesses_settled();
-    four_accesses::guess_fallen();
-    reader::asking();
-    reader::copying();
-    reader::finishing();
-    damaged::records();
+fn lines(rt: &impl Print) -> io::Result<()> {
+    what_to_look_for(rt)?;
+    planner::opening(rt)?;
+    planner::inserting(rt)?;
+    planner::of_a_job(rt)?;
+    planner::sealing(rt)?;
+    worker::before_any_run(rt)?;
+    worker::too_early(rt)?;
+    worker::too_late(rt)?;
+    guesses::reports(rt)?;
+    guesses::standing_and_fallen(rt)?;
+    four_accesses::guesses_settled(rt)?;
+    four_accesses::guess_fallen(rt)?;
+    reader::asking(rt)?;
+    reader::copying(rt)?;
+    reader::finishing(rt)?;
+    damaged::records(rt)
+}
+
+fn main(rt: HostRuntime) {
+    // where the output is closed, there is nobody to tell
+    let _ = lines(&rt);
 }

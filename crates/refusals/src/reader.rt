@@ -1,70 +1,62 @@
 //! The refusals of asking and of copying out, and when a batch is finished.
 
-use crate::batches::Point;
-use crate::{batches, worker};
+use crate::batches::{Point, at};
+use crate::worker::{Call, told};
+use say::Values;
+use std::io;
 
-fn cell(words: &[u8], point: Point, x: usize) {
-    let asked = batches::at(point).cell(x);
-    say::line(words, asked.refusal);
-}
-
-fn job(words: &[u8], point: Point, j: usize) {
-    let asked = batches::at(point).job(j);
-    say::line(words, asked.refusal);
-}
-
-pub fn asking() {
-    say::text(b"# the reader of results\n");
-    cell(b"ask cell 3: ", Point::Sealed, 3);
-    cell(b"ask cell 4: ", Point::Sealed, 4);
-    cell(b"ask cell 0, before sealing: ", Point::Unsealed, 0);
-    job(b"ask job 2: ", Point::Sealed, 2);
-    job(b"ask job 3: ", Point::Sealed, 3);
-    job(b"ask job 0, before sealing: ", Point::Unsealed, 0);
-}
-
-/// The places of the buffer.
-fn places(held: [i32; 7]) {
-    say::text(b", they hold");
-    say::height(b" ", held[0]);
-    say::height(b" ", held[1]);
-    say::height(b" ", held[2]);
-    say::height(b" ", held[3]);
-    say::height(b" ", held[4]);
-    say::height(b" ", held[5]);
-    say::height(b" ", held[6]);
-    say::text(b"\n");
-}
-
-fn copy_out(words: &[u8], at: usize) {
-    let mut buffer = [9i32; 7];
-    let refusal = batches::at(Point::Opened).copy_out(&mut buffer, at);
-    say::number(words, refusal as u64);
-    places(buffer);
-}
-
-pub fn copying() {
-    copy_out(b"copy out 4 cells into 7 places from place 0: ", 0);
-    copy_out(b"copy out 4 cells into 7 places from place 3: ", 3);
-    copy_out(b"copy out 4 cells into 7 places from place 4: ", 4);
-    copy_out(b"copy out 4 cells into 7 places from place 8: ", 8);
-}
-
-fn progress(words: &[u8], point: Point) {
-    let progress = batches::at(point).progress();
-    say::text(words);
-    if progress.finished {
-        say::text(b"finished\n");
-        return;
+pub fn asking(rt: &impl Print) -> io::Result<()> {
+    println!(rt; "# the reader of results")?;
+    for (what, refusal) in [
+        ("cell 3", at(Point::Sealed).cell(3).refusal),
+        ("cell 4", at(Point::Sealed).cell(4).refusal),
+        (
+            "cell 0, before sealing",
+            at(Point::Unsealed).cell(0).refusal,
+        ),
+        ("job 2", at(Point::Sealed).job(2).refusal),
+        ("job 3", at(Point::Sealed).job(3).refusal),
+        ("job 0, before sealing", at(Point::Unsealed).job(0).refusal),
+    ] {
+        println!(rt; "ask {what}: {refusal}")?;
     }
-    say::text(b"not finished\n");
+    Ok(())
 }
 
-pub fn finishing() {
-    progress(b"no jobs, not sealed: ", Point::Opened);
-    progress(b"no jobs, sealed: ", Point::SealedEmpty);
-    worker::choose(b"choose, no jobs: ", Point::SealedEmpty);
-    progress(b"no jobs, sealed, and then one: ", Point::SealedThenOne);
-    worker::choose(b"choose, that job: ", Point::SealedThenOne);
-    worker::start_own(b"start own 0, that job: ", Point::SealedThenOne, 0);
+pub fn copying(rt: &impl Print) -> io::Result<()> {
+    for place in [0, 3, 4, 8] {
+        let mut buffer = [9; 7];
+        let refusal = at(Point::Opened).copy_out(&mut buffer, place);
+        let held = Values {
+            run: &buffer,
+            arity: 7,
+        };
+        println!(rt;
+            "copy out 4 cells into 7 places from place {place}: {refusal}, they hold{held}"
+        )?;
+    }
+    Ok(())
+}
+
+fn progress(rt: &impl Print, what: &str, point: Point) -> io::Result<()> {
+    let finished = if at(point).progress().finished {
+        "finished"
+    } else {
+        "not finished"
+    };
+    println!(rt; "{what}: {finished}")
+}
+
+pub fn finishing(rt: &impl Print) -> io::Result<()> {
+    progress(rt, "no jobs, not sealed", Point::Opened)?;
+    progress(rt, "no jobs, sealed", Point::SealedEmpty)?;
+    told(rt, &[(Call::Choose, "no jobs", Point::SealedEmpty)])?;
+    progress(rt, "no jobs, sealed, and then one", Point::SealedThenOne)?;
+    told(
+        rt,
+        &[
+            (Call::Choose, "that job", Point::SealedThenOne),
+            (Call::StartOwn(0), "that job", Point::SealedThenOne),
+        ],
+    )
 }

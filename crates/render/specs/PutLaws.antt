@@ -1,9 +1,10 @@
 -- Laws of texts laid over a buffer, one after the other.
 use Rattle.std.specs.Prelude.{ℕ, suc, ◌+◌, ◌-◌, ◌≤◌, min, Bool, true, false, List, [], ◌∷◌, ◌++◌, ◌≡◌, refl, leb, length, set, take, drop}
-use Rattle.std.proofs.Common.{add-zero, arith, leb-true, leb-false, length-append}
+use Rattle.std.proofs.Common.{◌∙◌, add-zero, arith, leb-true, leb-false, length-append}
 use Rattle.std.proofs.lemmas.List.Edits.{sets, sets-eq}
 use Rattle.std.proofs.Math.Seq.{length-sets, set_out, take-append_seam}
-use Rattle.render.specs.Put.{Put}
+use Rattle.render.specs.declared.Writer.{Writer}
+use Rattle.render.specs.Put.{Put, Wrote}
 
 -- Past the buffer's end nothing is laid.
 sets_past : (d : List ℕ) (at : ℕ) (xs : List ℕ) → length d ≤ at → sets d at xs ≡ d
@@ -52,6 +53,14 @@ put_then {d} {at} {xs} {ys} {d₁} {d₂} {r₁} {r₂} p q =
 -- No text.
 pub put_none : (d : List ℕ) (at : ℕ) → Put d at [] d at
 put_none d at = record { laid = refl; moved = omega arith }
+
+-- The same of a writer.
+
+pub wrote_then : {a : Writer} {xs ys : List ℕ} {b c : Writer} → Wrote a xs b → Wrote b ys c → Wrote a (xs ++ ys) c
+wrote_then p q = record { put = put_then p.put q.put; same_reference = q.same_reference ∙ p.same_reference }
+
+pub wrote_none : (a : Writer) → Wrote a [] a
+wrote_none a = record { put = put_none a.out.now a.at; same_reference = refl }
 
 -- The buffer keeps its length.
 pub put_long : {d : List ℕ} {at : ℕ} {xs d' : List ℕ} {r : ℕ} → Put d at xs d' r → length d' ≡ length d

@@ -1,11 +1,8 @@
 //! Numbers and lines of the program's output, written into a buffer that the caller lends.
-//!
-//! Each function takes the place where its text begins and answers the place after it, where the next text goes.
-//! What does not fit in the buffer is not written, so no function asks for room.
-#![tactic(auto)]
+#![tactic(auto, using(crate::specs::PutLaws::wrote_none, crate::specs::TextLaws::decimal_one))]
 
-ghost use Rattle.std.specs.Prelude.{◌≡◌, [], ◌∷◌, nat_abs};
-ghost use Rattle.render.specs.Put.{Put};
+ghost use Rattle.std.specs.Prelude.{◌≡◌, [], ◌∷◌};
+ghost use Rattle.render.specs.Put.{Wrote};
 ghost use Rattle.render.specs.Text.{decimal, height_text, pair_line, triple_line, height_line, fault_lines};
 
 /// What stands between two fields.
@@ -20,105 +17,101 @@ const MINUS: u8 = b'-';
 /// The first of the ten digits.
 const ZERO: u8 = b'0';
 
-/// Writes one byte.
-pub fn put_byte(out: &mut [u8], at: usize, byte: u8) -> usize
-    ensures { Put out.old at (byte ∷ []) out.new result }
-{
-    if at < out.len() {
-        out[at] = byte;
-        return at + 1;
+/// A buffer and the place in it where the next text goes.
+/// What does not fit in the buffer is not written, so no method asks for room.
+#[derive(Drop)]
+pub struct Writer<'a> {
+    pub out: &'a mut [u8],
+    pub at: usize,
+}
+
+impl<'a> Writer<'a> {
+    /// The next text goes to the front of the buffer.
+    pub fn new(out: &'a mut [u8]) -> Writer<'a>
+        ensures out_now { result.out.now ≡ out.old }
+        ensures at { result.at ≡ 0 }
+        ensures same_reference { result.out.ghost_name ≡ out.entry.ghost_name }
+    {
+        Writer { out, at: 0 }
     }
-    at
-}
 
-/// Writes the bytes of a text.
-pub fn put_text(out: &mut [u8], at: usize, text: &[u8]) -> usize
-    ensures { Put out.old at text.now out.new result }
-{
-    let mut next = at;
-    let mut i: usize = 0;
-    while i < text.len() {
-        let byte = text[i];
-        let after = put_byte(out, next, byte);
-        next = after;
-        i += 1;
+    /// Writes one byte.
+    pub fn byte(&mut self, byte: u8)
+        ensures { Wrote self.old (byte ∷ []) self.new }
+    {
+        if self.at < self.out.len() {
+            self.out[self.at] = byte;
+            self.at += 1;
+        }
     }
-    next
-}
 
-/// Writes a number without a sign: the digits before the last one, and the last one.
-pub fn put_count(out: &mut [u8], at: usize, n: u64) -> usize
-    ensures { Put out.old at (decimal n) out.new result }
-{
-    if n < 10 {
-        return put_byte(out, at, ZERO + (n as u8));
+    /// Writes the bytes of a text.
+    pub fn text(&mut self, text: &[u8])
+        ensures { Wrote self.old text.now self.new }
+    {
+        for byte in text {
+            self.byte(*byte);
+        }
     }
-    let next = put_count(out, at, n / 10);
-    put_byte(out, next, ZERO + ((n % 10) as u8))
-}
 
-/// How far a height is from 0. For -2147483648 an `i32` does not hold it, so the difference is taken in 64 bits.
-fn distance(height: i32) -> u64
-    ensures { result ≡ nat_abs height }
-{
-    if height < 0 {
-        return (0 - (height as i64)) as u64;
+    /// Writes a number without a sign: the digits before the last one, and the last one.
+    pub fn count(&mut self, n: u64)
+        ensures { Wrote self.old (decimal n) self.new }
+    {
+        if n < 10 {
+            self.byte(ZERO + n as u8);
+            return;
+        }
+        self.count(n / 10);
+        self.byte(ZERO + (n % 10) as u8);
     }
-    height as u64
-}
 
-/// Writes a height: a minus sign where it is below 0, and its distance from 0.
-pub fn put_height(out: &mut [u8], at: usize, height: i32) -> usize
-    ensures { Put out.old at (height_text height) out.new result }
-{
-    let size = distance(height);
-    if height < 0 {
-        let next = put_byte(out, at, MINUS);
-        return put_count(out, next, size);
+    /// Writes a height: a minus sign where it is below 0, and its distance from 0.
+    pub fn height(&mut self, height: i32)
+        ensures { Wrote self.old (height_text height) self.new }
+    {
+        if height < 0 {
+            self.byte(MINUS);
+        }
+        self.count(u64::from(height.unsigned_abs()));
     }
-    put_count(out, at, size)
-}
 
-/// Writes a line of two numbers.
-fn put_two_counts(out: &mut [u8], at: usize, first: u64, second: u64) -> usize
-    ensures { Put out.old at (pair_line first second) out.new result }
-{
-    let gap = put_count(out, at, first);
-    let next = put_byte(out, gap, SPACE);
-    let end = put_count(out, next, second);
-    put_byte(out, end, LINE_FEED)
-}
+    /// Writes a line of two counts, as below `step answer`.
+    pub fn pair(&mut self, first: u64, second: u64)
+        ensures { Wrote self.old (pair_line first second) self.new }
+    {
+        self.count(first);
+        self.byte(SPACE);
+        self.count(second);
+        self.byte(LINE_FEED);
+    }
 
-/// Writes a line of two counts, as below `step answer`.
-pub fn put_pair(out: &mut [u8], at: usize, first: u32, second: u32) -> usize
-    ensures { Put out.old at (pair_line first second) out.new result }
-{
-    put_two_counts(out, at, first as u64, second as u64)
-}
+    /// Writes a line of three counts, as below `job how mark`.
+    pub fn triple(&mut self, first: u64, second: u64, third: u64)
+        ensures { Wrote self.old (triple_line first second third) self.new }
+    {
+        self.count(first);
+        self.byte(SPACE);
+        self.pair(second, third);
+    }
 
-/// Writes a line of three counts, as below `job how mark`.
-pub fn put_triple(out: &mut [u8], at: usize, first: u32, second: u32, third: u32) -> usize
-    ensures { Put out.old at (triple_line first second third) out.new result }
-{
-    let gap = put_count(out, at, first as u64);
-    let next = put_byte(out, gap, SPACE);
-    put_two_counts(out, next, second as u64, third as u64)
-}
+    // As `pair` but for the height: one function of both would take the last number as a closure.
 
-/// Writes a line of a count and a height, as below `cell value`.
-pub fn put_height_line(out: &mut [u8], at: usize, cell: u32, height: i32) -> usize
-    ensures { Put out.old at (height_line cell height) out.new result }
-{
-    let gap = put_count(out, at, cell as u64);
-    let next = put_byte(out, gap, SPACE);
-    let end = put_height(out, next, height);
-    put_byte(out, end, LINE_FEED)
-}
+    /// Writes a line of a count and a height, as below `cell value`.
+    pub fn height_line(&mut self, cell: u64, height: i32)
+        ensures { Wrote self.old (height_line cell height) self.new }
+    {
+        self.count(cell);
+        self.byte(SPACE);
+        self.height(height);
+        self.byte(LINE_FEED);
+    }
 
-/// Writes what a faulty plan gives: the names `fault line`, and the fault's number with its line.
-pub fn put_fault(out: &mut [u8], at: usize, number: u32, line: usize) -> usize
-    ensures { Put out.old at (fault_lines number line) out.new result }
-{
-    let next = put_text(out, at, b"fault line\n");
-    put_two_counts(out, next, number as u64, line as u64)
+    /// Writes what a faulty plan gives: the names `fault line`, and the fault's number with its line.
+    pub fn fault(&mut self, number: u64, line: u64)
+        ensures { Wrote self.old (fault_lines number line) self.new }
+    {
+        self.text(b"fault line\n");
+        self.pair(number, line);
+    }
 }

@@ -1,57 +1,64 @@
-//! Parts of the lines that programs write to standard output.
-//!
-//! No contract reaches what is written, so a height's text is made in a buffer first, by a function that has one.
+//! How the programs write heights, runs, and answers that are yes or no.
 #![tactic(auto)]
 
-ghost use Rattle.std.specs.Prelude.{◌≡◌, take};
-ghost use Rattle.io.specs.Counts.{IsPrefixLen};
+ghost use Rattle.std.specs.Prelude.{◌≡◌, cond, [], ◌∷◌};
+ghost use Rattle.std.specs.Fmt.{WritesOnOk};
 ghost use Rattle.render.specs.Text.{height_text};
 
-/// Puts the height's text at the start of the buffer and answers how many bytes it takes: 11 with the lowest height.
-fn spell(height: i32, buffer: &mut [u8; 11]) -> usize
-    ensures prefix_len { IsPrefixLen result buffer.new }
-    ensures buffer_after { take result buffer.new ≡ height_text height }
+use std::fmt;
+
+/// Writes a height as the answer to a plan has it.
+fn spell<W: fmt::Write>(height: i32, f: &mut fmt::Formatter<W>) -> fmt::Result
+    ensures { WritesOnOk W.write_str_gives f.old result (height_text height) f.new }
 {
-    render::put_height(buffer, 0, height)
+    write!(f, "{height}")
 }
 
-/// The words.
-pub fn text(words: &[u8]) {
-    io::write_all(1, words);
-}
+/// A height, to be written.
+#[derive(Clone, Copy)]
+pub struct Height(pub i32);
 
-/// The words, and behind them the number.
-pub fn number(words: &[u8], n: u64) {
-    text(words);
-    io::print_decimal(1, n);
-}
-
-/// A line of the words and the number.
-pub fn line(words: &[u8], n: u8) {
-    number(words, n as u64);
-    text(b"\n");
-}
-
-/// The words, and behind them the height.
-pub fn height(words: &[u8], h: i32) {
-    text(words);
-    let mut buffer = [0u8; 11];
-    let n = spell(h, &mut buffer);
-    text(&buffer[..n]);
-}
-
-/// The value of a place that is in use.
-fn value(used: bool, h: i32) {
-    if used {
-        height(b" ", h);
+impl fmt::Display for Height {
+    fn fmt<W: fmt::Write>(&self, f: &mut fmt::Formatter<W>) -> fmt::Result {
+        spell(self.0, f)
     }
 }
 
-/// The words, and behind them the values of the first `arity` places.
-pub fn values(words: &[u8], run: [i32; 4], arity: u8) {
-    text(words);
-    value(0 < arity, run[0]);
-    value(1 < arity, run[1]);
-    value(2 < arity, run[2]);
-    value(3 < arity, run[3]);
+/// The heights in the first `arity` places of a run, to be written with a space before each.
+#[derive(Clone, Copy)]
+pub struct Values<'a> {
+    pub run: &'a [i32],
+    pub arity: u8,
+}
+
+impl fmt::Display for Values<'_> {
+    fn fmt<W: fmt::Write>(&self, f: &mut fmt::Formatter<W>) -> fmt::Result {
+        for height in self.run.iter().take(usize::from(self.arity)) {
+            write!(f, " {}", Height(*height))?;
+        }
+        Ok(())
+    }
+}
+
+/// Which of a job's runs: its own, or its guess.
+#[derive(Clone, Copy)]
+pub enum Run {
+    Own,
+    Guess,
+}
+
+impl fmt::Display for Run {
+    fn fmt<W: fmt::Write>(&self, f: &mut fmt::Formatter<W>) -> fmt::Result {
+        match self {
+            Run::Own => write!(f, "own"),
+            Run::Guess => write!(f, "guess"),
+        }
+    }
+}
+
+/// The word for an answer.
+pub fn yes_no(holds: bool) -> &'static str
+    ensures { result.now ≡ cond holds (121 ∷ 101 ∷ 115 ∷ []) (110 ∷ 111 ∷ []) }
+{
+    if holds { "yes" } else { "no" }
 }

@@ -64,9 +64,5 @@ const NUMBERS: [u32; 110] = [
 pub extern "C" fn sorghemi_layout(place: usize) -> u32
     ensures { result ≡ get_or layout place 0 }
 {
-    let numbers = NUMBERS;
-    if place < 110 {
-        return numbers[place];
-    }
-    0
+    NUMBERS.get(place).copied().unwrap_or(0)
 }

@@ -12,6 +12,8 @@ mod step;
 mod tallies;
 mod turn;
 
+// Each a C record: numbers and flags, and no Option or Result, which no exported function can answer with.
+
 /// What a step on a lent batch answers: 0 or the number of its refusal, and the values handed to a run, 0 each where none is started.
 #[repr(C)]
 #[derive(Clone, Copy)]
@@ -37,6 +39,7 @@ pub struct PlanAnswer {
 }
 
 /// What asking for the kept share tells: whether there is one, and its whole thousandths, 0 where there is none.
+// C interface: an exported function cannot answer with an `Option`.
 #[repr(C)]
 #[derive(Clone, Copy)]
 pub struct ShareAnswer {

@@ -32,6 +32,7 @@ pub extern "C" fn sorghemi_insert_all(batch: &mut Batch, list: &JobList) -> Inse
 {
     let inserted = (*batch).insert_all(*list);
     *batch = inserted.batch;
+    // no `From`: it would take the whole record by value for two fields
     Inserted {
         refusal: inserted.refusal,
         at: inserted.at,

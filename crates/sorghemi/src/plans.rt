@@ -4,6 +4,7 @@ ghost use Rattle.std.specs.Prelude.{◌≡◌};
 ghost use Rattle.sorghemi.specs.Plan.{plan_answered, buffer_answered};
 
 use crate::PlanAnswer;
+use refusal::Refusal;
 
 /// A buffer of so many bytes takes every answer.
 const ENOUGH: usize = 334861;
@@ -16,7 +17,7 @@ pub extern "C" fn sorghemi_answer_plan(plan: &[u8], buffer: &mut [u8]) -> PlanAn
 {
     if buffer.len() < ENOUGH {
         return PlanAnswer {
-            refusal: 20,
+            refusal: u8::from(Refusal::NoRoom),
             length: 0,
         };
     }

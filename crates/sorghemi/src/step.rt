@@ -16,8 +16,7 @@ pub extern "C" fn sorghemi_step_by_value(
 ) -> Started
     ensures { result ≡ stepped_for batch number job report }
 {
-    let values = report.values;
-    batch.step(number, job, values, report.wrote)
+    batch.step(number, job, report)
 }
 
 /// R9: the same step on a batch that the host lends: it holds what the by-value step hands back. A refusal leaves it as it was.
@@ -33,6 +32,8 @@ pub extern "C" fn sorghemi_step(batch: &mut Batch, number: u8, job: usize, repor
             values: [0; 4],
         };
     }
+    // stored here and not by the engine: a store asks that the job is held, and no public function of the engine asks anything;
+    // tried: stored straight from the field, the cells are not covered by the borrow checker
     let cells = change.cells;
     batch.cells = cells;
     batch.runs[job] = change.run;

@@ -8,7 +8,7 @@ ghost use Rattle.sorghemi.specs.Share.{shown_share};
 
 use crate::ShareAnswer;
 use engine::Batch;
-use tally::{Share, Tally, TallyAnswer};
+use tally::{Tally, TallyAnswer};
 
 /// R75: how many jobs the batch holds, and what became of their guesses. Refused with 32.
 #[unsafe(no_mangle)]
@@ -19,15 +19,14 @@ pub extern "C" fn sorghemi_ask_tally(batch: Batch) -> TallyAnswer
 }
 
 /// R76: the tallies that the host lends, added up. Refused with 23.
+#[tactic(auto, using(tally::specs::TotalLaws::total_passed))]
 #[unsafe(no_mangle)]
 pub extern "C" fn sorghemi_total(tallies: &[Tally]) -> TallyAnswer
     ensures { result ≡ total_of tallies.now }
 {
     let mut total = TallyAnswer::none();
-    let mut i: usize = 0;
-    while i < tallies.len() {
-        total = total.plus(tallies[i]);
-        i += 1;
+    for tally in tallies {
+        total = total.plus(*tally);
     }
     total
 }
@@ -37,15 +36,17 @@ pub extern "C" fn sorghemi_total(tallies: &[Tally]) -> TallyAnswer
 pub extern "C" fn sorghemi_kept_share(tally: Tally) -> ShareAnswer
     ensures { result ≡ shown_share (kept_share tally) }
 {
-    let share = tally.kept_share();
-    match share {
-        Share::Thousandths(thousandths) => ShareAnswer {
-            present: true,
-            thousandths,
-        },
-        Share::Absent => ShareAnswer {
-            present: false,
-            thousandths: 0,
-        },
+    tally.kept_share().into()
+}
+
+impl From<Option<u64>> for ShareAnswer {
+    ghost from_gives = { λ share answer. answer ≡ shown_share share };
+
+    #[tactic(auto, unfolding(crate::specs::Share::shown_share))]
+    fn from(share: Option<u64>) -> ShareAnswer {
+        ShareAnswer {
+            present: share.is_some(),
+            thousandths: share.unwrap_or(0),
+        }
     }
 }

@@ -8,6 +8,7 @@ use engine::{Batch, Report, StepList};
 
 /// R64: a report or none, and then the steps that the chooser names, up to the limit: they stand in the list afterwards.
 /// Only what the turn changes is stored. A refusal leaves the batch and the list as they were.
+#[tactic(auto, using(engine::specs::TurnPlaces::turn_few))]
 #[unsafe(no_mangle)]
 pub extern "C" fn sorghemi_turn(
     batch: &mut Batch,
@@ -20,6 +21,7 @@ pub extern "C" fn sorghemi_turn(
     ensures { (batch.new ≡ (turned_for batch.old number job report limit).batch) × (steps.new ≡ list_after (turned_for batch.old number job report limit) steps.old) × (result ≡ told_of (turned_for batch.old number job report limit)) }
 {
     let change = (*batch).turn(number, job, report, limit);
+    // no `From`: it would take the whole change by value for two fields
     let told = Turned {
         refusal: change.refusal,
         count: change.count,
@@ -27,20 +29,12 @@ pub extern "C" fn sorghemi_turn(
     if change.refusal != 0 {
         return told;
     }
-    let cells = change.cells;
-    batch.cells = cells;
-    let committed = change.committed;
-    batch.committed = committed;
-    let running = change.running;
-    batch.running = running;
-    let phase = change.phase;
-    batch.phase = phase;
-    let runs = change.changed;
-    let mut i: usize = 0;
-    while i < (change.stored as usize) {
-        let held = runs[i];
+    batch.cells = change.cells;
+    batch.committed = change.committed;
+    batch.running = change.running;
+    batch.phase = change.phase;
+    for held in &change.changed[..change.stored as usize] {
         batch.runs[held.job as usize] = held.run;
-        i += 1;
     }
     *steps = change.steps;
     told

@@ -7,7 +7,7 @@ use Rattle.engine.specs.Ask.{asked_job}
 use Rattle.engine.specs.ByNumber.{stepped}
 use Rattle.engine.specs.declared.Batch.{Batch}
 use Rattle.engine.specs.declared.Started.{Started}
-use Rattle.steplines.specs.StepLines.{step_line_of}
+use Rattle.steplines.specs.StepLines.{step_tried}
 use Rattle.steplines.specs.declared.StepLine.{StepLine}
 use Rattle.render.specs.Text.{pair_line}
 
@@ -22,11 +22,11 @@ performed b line =
     stepped b line.step line.job (report_of b line.job).values (report_of b line.job).wrote
 
 abbrev pub line_done : Batch → List ℕ → Started
-line_done b line = performed b (step_line_of line)
+line_done b line = performed b (step_tried line)
 
 -- R152: the step, and 0 or the number of the refusal.
 abbrev pub answer_line : Batch → List ℕ → List ℕ
-answer_line b line = pair_line (step_line_of line).step (line_done b line).refusal
+answer_line b line = pair_line (step_tried line).step (line_done b line).refusal
 
 -- In the plan's order: each is tried on the batch that the one before it left.
 -- Lines end in line feed, so the last piece, behind the last line feed, is none.

@@ -1,6 +1,6 @@
 -- The step lines as a loop over the lines meets them, and how long their answers are.
 use Rattle.std.specs.Prelude.{ℕ, ◌*◌, ◌<◌, ◌≤◌, Bool, true, false, cond, ◌&&◌, List, [], ◌∷◌, ◌++◌, ◌≡◌, refl, eqb, ltb, ℤ, length}
-use Rattle.std.proofs.Common.{arith, length-append, ltb-true, ltb-false}
+use Rattle.std.proofs.Common.{arith, length-append, ltb-true}
 use Rattle.laws.specs.SearchLaws.{and_left, and_right}
 use Rattle.laws.specs.Refusal.{Refusal, when, first_of}
 use Rattle.rules.specs.Refusals.{start_own_tests, start_speculation_tests, report_own_tests, report_speculation_tests, commit_tests}
@@ -12,10 +12,8 @@ use Rattle.engine.specs.ByNumber.{without_values, no_such_step, stepped}
 use Rattle.engine.specs.declared.Batch.{Batch}
 use Rattle.text.specs.Pieces.{line_feed, pieces}
 use Rattle.text.proofs.PieceLaws.{some_piece}
-use Rattle.number.specs.Numbers.{count_of}
-use Rattle.number.specs.declared.Natural.{Natural}
-use Rattle.number.specs.declared.Natural.TheVariants as natural
-use Rattle.steplines.specs.StepLines.{field_count, field_of, no_step, step_from, step_line_of}
+use Rattle.steplines.specs.StepLines.{step_tried}
+use Rattle.steplines.specs.StepLaws.{step_small}
 use Rattle.render.specs.Length.{decimal_length, pair_takes}
 use Rattle.stepping.specs.Stepping.{performed, line_done, answer_line, steps_text, batch_after_lines}
 
@@ -50,26 +48,6 @@ text_last b rest = refl
 pub after_last : (b : Batch) (rest : List ℕ) → batch_after_lines b (rest ∷ []) ≡ b
 unfolding batch_after_lines
 after_last b rest = refl
-
--- A step number is at most 4: by the line's two fields, and of any line.
-
-from_small : (first second : Natural) → (step_from first second).step ≤ 4
-from_small natural.Not second = omega arith
-from_small (natural.Is step) natural.Not = omega arith
-from_small (natural.Is step) (natural.Is job) = go (ltb 4 step) refl
-  where
-    go : (t : Bool) → ltb 4 step ≡ t → (cond t no_step (record { ok = true; step = step; job = job })).step ≤ 4
-    go true h = omega arith
-    go false h = ltb-false 4 step h
-
-step_small : (line : List ℕ) → (step_line_of line).step ≤ 4
-unfolding step_line_of
-step_small line = go (eqb (field_count line) 2) (from_small (count_of (field_of line 0)) (count_of (field_of line 1)))
-  where
-    go : (t : Bool) → (step_from (count_of (field_of line 0)) (count_of (field_of line 1))).step ≤ 4
-        → (cond t (step_from (count_of (field_of line 0)) (count_of (field_of line 1))) no_step).step ≤ 4
-    go true h = h
-    go false h = omega arith
 
 -- A refusal is below 100: by the numbers of the tests, of a call with such tests, and of each step.
 
@@ -117,7 +95,7 @@ refusal_small b number j values wrote =
 answer_length : (b : Batch) (line : List ℕ) → length (answer_line b line) ≤ 5
 unfolding performed
 answer_length b line =
-    let step = (step_line_of line).step in
+    let step = (step_tried line).step in
     let refusal = (line_done b line).refusal in
     let few : refusal < 100 = refusal_small b step _ _ _ in
     omega (

@@ -1,71 +1,46 @@
 //! The second pass over a plan: each step line is performed on the batch, and its answer written.
-#![tactic(auto)]
+#![tactic(auto, unfolding(crate::specs::Stepping::report_of, crate::specs::Stepping::performed))]
 
-ghost use Rattle.std.specs.Prelude.{◌≤◌, ◌≡◌, length, drop};
+ghost use Rattle.std.specs.Prelude.{◌≡◌, drop};
 ghost use Rattle.text.specs.Pieces.{line_feed, pieces};
-ghost use Rattle.render.specs.Put.{Put};
+ghost use Rattle.render.specs.Put.{Wrote};
 ghost use Rattle.stepping.specs.Stepping.{report_of, performed, steps_text, batch_after_lines};
 
-use engine::{Batch, Started};
+use engine::{Batch, Report, Started};
 use kinds::Outcome;
+use render::Writer;
 use steplines::StepLine;
-
-/// The byte at the end of a line.
-const LINE_FEED: u8 = b'\n';
-
-/// What the step lines left: the place after their answers, and the batch.
-#[derive(Clone, Copy)]
-pub struct Ran {
-    pub at: usize,
-    pub batch: Batch,
-}
 
 /// What job `j` reports of the values handed to its run. Asking the job is total: past the last job all is 0.
 fn report_of(batch: Batch, j: usize) -> Outcome
     ensures { result ≡ report_of batch j }
 {
     let shown = batch.job(j);
-    let job = shown.job;
-    let parameter = job.parameter;
-    let handed = shown.handed;
-    kinds::result(job.kind, parameter, handed)
+    kinds::result(shown.job.kind, shown.job.parameter, shown.handed)
 }
 
 /// The step that the line names, on the job that it names.
 fn perform(batch: Batch, line: StepLine) -> Started
     ensures { result ≡ performed batch line }
 {
-    let j = line.job as usize;
-    let report = report_of(batch, j);
-    let values = report.values;
-    batch.step(line.step, j, values, report.wrote)
+    let Outcome { values, wrote, .. } = report_of(batch, line.job);
+    batch.step(line.step, line.job, Report { values, wrote })
 }
 
-/// Tries each step line from byte `from` on, also after a refusal, and writes the answers from place `start` on.
-/// Past the last byte there are no lines.
-pub fn run_steps(bytes: &[u8], from: usize, batch: Batch, out: &mut [u8], start: usize) -> Ran
-    ensures put { Put out.old start (steps_text batch (pieces line_feed (drop from bytes.now))) out.new result.at }
-    ensures batch_value { result.batch ≡ batch_after_lines batch (pieces line_feed (drop from bytes.now)) }
+/// Tries each step line from byte `from` on, also after a refusal, writes the answers, and gives the batch that the steps left.
+/// Past the last byte there are no lines. A line that is not in form is tried as step 0 on job 0.
+pub fn run_steps(bytes: &[u8], from: usize, batch: Batch, writer: &mut Writer<'_>) -> Batch
+    ensures wrote { Wrote writer.old (steps_text batch (pieces line_feed (drop from bytes.now))) writer.new }
+    ensures batch_value { result ≡ batch_after_lines batch (pieces line_feed (drop from bytes.now)) }
 {
-    if bytes.len() < from {
-        return Ran { at: start, batch };
+    let mut left = batch;
+    let mut rest = &bytes[from.min(bytes.len())..];
+    while let Some((line, after)) = text::split_once(rest, text::LINE_FEED) {
+        let tried = steplines::step_in(line).unwrap_or_default();
+        let done = perform(left, tried);
+        writer.pair(u64::from(tried.step), u64::from(done.refusal));
+        left = done.batch;
+        rest = after;
     }
-    let mut held = batch;
-    let mut at = from;
-    let mut next = start;
-    loop {
-        let stop = text::cut(bytes, at, LINE_FEED);
-        if stop == bytes.len() {
-            return Ran {
-                at: next,
-                batch: held,
-            };
-        }
-        let line = steplines::step_in(&bytes[at..stop]);
-        let done = perform(held, line);
-        let after = render::put_pair(out, next, line.step as u32, done.refusal as u32);
-        held = done.batch;
-        next = after;
-        at = stop + 1;
-    }
+    left
 }

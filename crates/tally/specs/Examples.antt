@@ -1,7 +1,6 @@
 -- Totals and kept shares, computed from the definitions: at the limit and one past it in each of the five numbers, and shares
 -- at the ends of their range. (crates/examples has tallies of whole batches.)
-use Rattle.std.specs.Prelude.{ℕ, List, [], ◌∷◌, ◌≡◌, refl}
-use Rattle.std.proofs.Math.Option.{Option, none, some}
+use Rattle.std.specs.Prelude.{ℕ, List, [], ◌∷◌, ◌≡◌, refl, Option, None, Some}
 use Rattle.laws.specs.Rows.{AllHold, end, ◌also◌}
 use Rattle.tally.specs.declared.Tally.{Tally}
 use Rattle.tally.specs.declared.TallyAnswer.{TallyAnswer}
@@ -32,7 +31,7 @@ abbrev pub table : List Example
 table =
     -- P11: the last tallies of P8 and P9, and their kept share.
     totals (numbers 2 1 1 0 0 ∷ numbers 3 2 0 1 1 ∷ []) (given (numbers 5 3 1 1 1))
-    ∷ share (numbers 5 3 1 1 1) (some 333)
+    ∷ share (numbers 5 3 1 1 1) (Some 333)
     -- R76: no tally, one, and five numbers at the limit.
     ∷ totals [] (given (numbers 0 0 0 0 0))
     ∷ totals (numbers 1 2 3 4 5 ∷ []) (given (numbers 1 2 3 4 5))
@@ -45,14 +44,14 @@ table =
     ∷ totals (numbers 0 0 0 0 1 ∷ numbers 0 0 0 0 most ∷ []) (refused 23)
     ∷ totals (numbers 1 0 0 0 0 ∷ numbers most 0 0 0 0 ∷ numbers 0 0 0 0 0 ∷ []) (refused 23)
     -- R77: absent, none, two thirds and all; the least and the largest that any tally has.
-    ∷ share (numbers 7 0 0 0 0) none
-    ∷ share (numbers 7 0 3 0 0) none
-    ∷ share (numbers 7 5 0 5 0) (some 0)
-    ∷ share (numbers 7 3 2 1 0) (some 666)
-    ∷ share (numbers 7 7 7 0 0) (some 1000)
-    ∷ share (numbers 0 most 4294967 0 0) (some 0)
-    ∷ share (numbers 0 most 4294968 0 0) (some 1)
-    ∷ share (numbers 0 1 most 0 0) (some 4294967295000)
+    ∷ share (numbers 7 0 0 0 0) None
+    ∷ share (numbers 7 0 3 0 0) None
+    ∷ share (numbers 7 5 0 5 0) (Some 0)
+    ∷ share (numbers 7 3 2 1 0) (Some 666)
+    ∷ share (numbers 7 7 7 0 0) (Some 1000)
+    ∷ share (numbers 0 most 4294967 0 0) (Some 0)
+    ∷ share (numbers 0 most 4294968 0 0) (Some 1)
+    ∷ share (numbers 0 1 most 0 0) (Some 4294967295000)
     ∷ []
 
 pub examples_hold : AllHold Holds table

@@ -1,9 +1,9 @@
 -- Laws of the kept share (R77): when it is absent, that it is the quotient rounded down, and that a tally in balance has no
 -- share above the whole.
-use Rattle.std.specs.Prelude.{ℕ, ◌+◌, ◌*◌, ◌/◌, ◌<◌, ◌≤◌, ◌≢◌, ◌≡◌, eqb}
+use Rattle.std.specs.Prelude.{ℕ, ◌+◌, ◌*◌, ◌/◌, ◌<◌, ◌≤◌, ◌≢◌, ◌≡◌, eqb, None, Some}
 use Rattle.std.proofs.Common.{arith, div-mul-le_self, div-lt_iff_lt-mul, sym, ◌∙◌, eqb-true, eq-eqb, ne_eqb}
 use Rattle.std.proofs.Math.Nat.{lt-div-mul-add}
-use Rattle.std.proofs.Math.Option.{none, some, some-injective, none-ne-some}
+use Rattle.std.proofs.lemmas.Option.{same_Some, none-some}
 use Rattle.std.proofs.lemmas.Bool.{eqb-false}
 use Rattle.laws.specs.SearchLaws.{if-or}
 use Rattle.tally.specs.declared.Tally.{Tally}
@@ -13,30 +13,30 @@ use Rattle.tally.specs.Share.{kept_share}
 module _ (t : Tally) where
   -- It is absent exactly where no guess was started.
 
-  pub share_absent : t.started ≡ 0 → kept_share t ≡ none
+  pub share_absent : t.started ≡ 0 → kept_share t ≡ None
   unfolding kept_share
   share_absent e = rw (eq-eqb t.started 0 e)
 
-  pub share_present : t.started ≢ 0 → kept_share t ≡ some (t.kept * 1000 / t.started)
+  pub share_present : t.started ≢ 0 → kept_share t ≡ Some (t.kept * 1000 / t.started)
   unfolding kept_share
   share_present n = rw (ne_eqb t.started 0 n)
 
-  pub absent_means : kept_share t ≡ none → t.started ≡ 0
+  pub absent_means : kept_share t ≡ None → t.started ≡ 0
   absent_means e =
       if-or (eqb t.started 0)
       (λ none-started. eqb-true t.started 0 none-started)
-      (λ some-started. absurd (none-ne-some _ (sym e ∙ share_present (eqb-false t.started 0 some-started))))
+      (λ some-started. absurd (none-some _ (sym e ∙ share_present (eqb-false t.started 0 some-started))))
 
-  module _ (n : ℕ) (e : kept_share t ≡ some n) where
+  module _ (n : ℕ) (e : kept_share t ≡ Some n) where
     present_means : 0 < t.started
     present_means =
         if-or (eqb t.started 0)
-        (λ none-started. absurd (none-ne-some n (sym (share_absent (eqb-true t.started 0 none-started)) ∙ e)))
+        (λ none-started. absurd (none-some n (sym (share_absent (eqb-true t.started 0 none-started)) ∙ e)))
         (λ some-started. omega (arith, eqb-false t.started 0 some-started))
 
     is_quotient : t.kept * 1000 / t.started ≡ n
     is_quotient =
-        some-injective _ n (sym (share_present (λ z. omega (arith, z, present_means))) ∙ e)
+        same_Some _ n (sym (share_present (λ z. omega (arith, z, present_means))) ∙ e)
 
     -- So many thousandths were kept, and not one more.
     pub share_rounded : (n * t.started ≤ t.kept * 1000) × (t.kept * 1000 < n * t.started + t.started)

@@ -1,6 +1,8 @@
 -- R75: the tally of a batch, how many jobs it holds and what became of their guesses.
-use Rattle.std.specs.Prelude.{ℕ, ◌+◌, Bool, cond, not, ◌&&◌, List, ◌≡◌, eqb, get_or}
+use Rattle.std.specs.Prelude.{ℕ, ◌+◌, Bool, cond, not, ◌&&◌, List, ◌≡◌, eqb, get_or, Result, Ok, Err}
 use Rattle.laws.specs.Fold.{count_below}
+use Rattle.refusal.specs.declared.Refusal.{Refusal}
+use Rattle.refusal.specs.Refusal.{number_of}
 use Rattle.dependence.specs.Ready.{is_committed}
 use Rattle.rules.specs.Snapshot.{never_started, is_discarded, is_live}
 use Rattle.engine.specs.declared.Batch.{Batch}
@@ -61,6 +63,11 @@ given tally = record { refusal = 0; tally = tally }
 
 abbrev pub refused : ℕ → TallyAnswer
 refused refusal = record { refusal = refusal; tally = no_tally }
+
+-- A tally, or why there is none, as an answer.
+abbrev pub answered : Result Tally Refusal → TallyAnswer
+answered (Ok tally) = given tally
+answered (Err why) = refused (number_of why)
 
 unfoldable pub tallied : Batch → TallyAnswer
 tallied b = cond (in_form b) (given (tally_of b)) (refused 32)

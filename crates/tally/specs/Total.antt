@@ -1,5 +1,5 @@
 -- R76: the total of many tallies.
-use Rattle.std.specs.Prelude.{ℕ, ◌+◌, max, Bool, cond, List, [], ◌∷◌, eqb, ltb}
+use Rattle.std.specs.Prelude.{ℕ, ◌+◌, max, Bool, cond, List, [], ◌∷◌, eqb, ltb, Option, None, Some}
 use Rattle.tally.specs.declared.Tally.{Tally}
 use Rattle.tally.specs.declared.TallyAnswer.{TallyAnswer}
 use Rattle.tally.specs.Tally.{no_tally, given, refused}
@@ -28,6 +28,10 @@ largest t = max t.jobs (max t.started (max t.kept (max t.discarded t.pending)))
 
 abbrev pub is_over : Tally → Bool
 is_over t = ltb most (largest t)
+
+-- The tally, where each of its numbers fits, and what is answered then.
+unfoldable pub fitting : Tally → Option Tally
+fitting t = cond (is_over t) None (Some t)
 
 unfoldable pub fitted : Tally → TallyAnswer
 fitted t = cond (is_over t) (refused 23) (given t)

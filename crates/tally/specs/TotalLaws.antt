@@ -1,6 +1,7 @@
 -- Laws of the total: adding one tally after the other leads to it, in any order, and it is in balance where each tally is.
-use Rattle.std.specs.Prelude.{ℕ, suc, ◌+◌, ◌-◌, ◌<◌, ◌≤◌, max, true, false, List, [], ◌∷◌, ◌++◌, ◌≡◌, refl, ltb, length, get_or, drop}
+use Rattle.std.specs.Prelude.{ℕ, suc, ◌+◌, ◌-◌, ◌<◌, ◌≤◌, max, true, false, List, [], ◌∷◌, ◌++◌, ◌≡◌, refl, ltb, length, get_or, drop, take, fold}
 use Rattle.std.proofs.Common.{arith, lt_of_lt_of_le, sym, ap, ◌∙◌, drop_of_length-le, drop-cons, ltb-true, ltb-false, lt-ltb, le-ltb}
+use Rattle.std.proofs.lemmas.List.{take_all}
 use Rattle.laws.specs.SearchLaws.{if-or}
 use Rattle.tally.specs.declared.Tally.{Tally}
 use Rattle.tally.specs.declared.TallyAnswer.{TallyAnswer}
@@ -135,6 +136,18 @@ total_from_none tallies =
     ap (λ (total : TallyAnswer). total_from total tallies) (sym (fitted_not no_tally refl))
     ∙ fitted_from no_tally tallies
     ∙ ap fitted (none_sum (sum_of tallies))
+
+-- The loop is std's fold.
+pub total_folded : (tallies : List Tally) → fold added_to no_total tallies ≡ total_of tallies
+unfolding total_from
+total_folded tallies = same no_total tallies ∙ total_from_none tallies
+  where
+    same : (total : TallyAnswer) (tallies : List Tally) → fold added_to total tallies ≡ total_from total tallies
+    same total [] = refl
+    same total (tally ∷ tallies) = same (added_to total tally) tallies
+
+pub total_passed : (tallies : List Tally) (n : ℕ) → length tallies ≤ n → fold added_to no_total (take n tallies) ≡ total_of tallies
+total_passed tallies n h = rw (take_all n tallies h) (total_folded tallies)
 
 -- R178: a total is in balance where each tally added is; a refused one, all zeros, is anyway.
 pub sum_balanced : (a b : Tally) → Balanced a → Balanced b → Balanced (sum_of_two a b)

@@ -1,7 +1,6 @@
 //! The tally of one batch.
 
-ghost use Rattle.std.specs.Prelude.{◌≡◌, ◌<◌, ◌≤◌};
-ghost use Rattle.laws.specs.Fold.{flag};
+ghost use Rattle.std.specs.Prelude.{◌≡◌, ◌<◌, ◌≤◌, length};
 ghost use Rattle.tally.specs.Tally.{is_pending, tally_below, tallied};
 ghost use Rattle.tally.specs.TallyLaws.{with_job};
 ghost use Rattle.tally.specs.Total.{largest, most};
@@ -9,6 +8,9 @@ ghost use Rattle.tally.specs.Total.{largest, most};
 use crate::{Tally, TallyAnswer};
 use engine::Batch;
 use engine::speculation::is_live;
+use refusal::Refusal;
+
+// The columns of the C record hold bytes.
 
 /// A job committed by its speculative run, in the record's column `committed`.
 const BY_SPECULATION: u8 = 2;
@@ -18,24 +20,11 @@ const NEVER_STARTED: u8 = 0;
 
 const DISCARDED: u8 = 3;
 
-/// A test as a number.
-fn one_if(test: bool) -> u32
-    ensures { (result ≡ flag test) × (result ≤ 1) }
-{
-    if test {
-        return 1;
-    }
-    0
-}
-
 /// Whether the job's speculative run is still out or stored, and the job not committed.
 fn is_pending(committed: u8, phase: u8) -> bool
     ensures { result ≡ is_pending committed phase }
 {
-    if committed != 0 {
-        return false;
-    }
-    is_live(phase)
+    committed == 0 && is_live(phase)
 }
 
 impl Tally {
@@ -44,43 +33,37 @@ impl Tally {
         requires { largest self < most }
         ensures { result ≡ with_job self committed phase }
     {
-        let started = one_if(phase != NEVER_STARTED);
-        let kept = one_if(committed == BY_SPECULATION);
-        let discarded = one_if(phase == DISCARDED);
-        let pending = one_if(is_pending(committed, phase));
         Tally {
             jobs: self.jobs + 1,
-            started: self.started + started,
-            kept: self.kept + kept,
-            discarded: self.discarded + discarded,
-            pending: self.pending + pending,
+            started: self.started + u32::from(phase != NEVER_STARTED),
+            kept: self.kept + u32::from(committed == BY_SPECULATION),
+            discarded: self.discarded + u32::from(phase == DISCARDED),
+            pending: self.pending + u32::from(is_pending(committed, phase)),
         }
     }
 
-    /// The tally of the first `n` jobs, by their states.
-    fn below(n: usize, committed: [u8; 128], phase: [u8; 128]) -> Tally
-        requires { n ≤ 128 }
-        ensures { result ≡ tally_below n committed phase }
+    /// The tally of some jobs, by their states.
+    fn of_states(committed: &[u8], phase: &[u8]) -> Tally
+        requires few { length committed.now ≤ 128 }
+        requires each_has_both { length phase.now ≡ length committed.now }
+        ensures { result ≡ tally_below (length committed.now) committed.now phase.now }
     {
-        let mut tally = Tally::none();
-        let mut j: usize = 0;
-        while j < n {
-            tally = tally.with_job(committed[j], phase[j]);
-            j += 1;
+        let mut tally = Tally::default();
+        for (how, guess) in committed.iter().zip(phase) {
+            tally = tally.with_job(*how, *guess);
         }
         tally
     }
 
     /// R75: how many jobs the batch holds, and what became of their speculative runs. Refused with 32.
+    #[tactic(auto, using(crate::specs::TallyLaws::counting))]
     pub fn count(batch: Batch) -> TallyAnswer
         ensures { result ≡ tallied batch }
     {
-        if batch.is_in_form() {
-            let committed = batch.committed;
-            let phase = batch.phase;
-            let tally = Tally::below(batch.job_count as usize, committed, phase);
-            return TallyAnswer { refusal: 0, tally };
+        if !batch.is_in_form() {
+            return Err(Refusal::OutOfForm).into();
         }
-        TallyAnswer::refused(32)
+        let jobs = batch.job_count as usize;
+        Ok(Tally::of_states(&batch.committed[..jobs], &batch.phase[..jobs])).into()
     }
 }

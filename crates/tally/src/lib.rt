@@ -2,7 +2,9 @@
 #![tactic(auto)]
 
 ghost use Rattle.std.specs.Prelude.{◌≡◌};
-ghost use Rattle.tally.specs.Tally.{no_tally, refused};
+ghost use Rattle.tally.specs.Tally.{answered};
+
+use refusal::Refusal;
 
 mod count;
 mod kept_share;
@@ -11,7 +13,7 @@ mod total;
 /// R75: how many jobs there are, and how many of their speculative runs were started, are kept (the job is committed by
 /// it), are discarded, and are pending: still out or with a stored report, their job not committed.
 #[repr(C)]
-#[derive(Clone, Copy)]
+#[derive(Clone, Copy, PartialEq, Eq, Debug, Default)]
 pub struct Tally {
     pub jobs: u32,
     pub started: u32,
@@ -22,40 +24,22 @@ pub struct Tally {
 
 /// What counting and adding up answer: 0 or the number of the refusal, and a tally, all 0 where it is refused.
 #[repr(C)]
-#[derive(Clone, Copy)]
+#[derive(Clone, Copy, PartialEq, Eq, Debug, Default)]
 pub struct TallyAnswer {
     pub refusal: u8,
     pub tally: Tally,
 }
 
-/// R77: the share of the speculative runs started that were kept; absent where none was started.
-#[derive(Clone, Copy)]
-pub enum Share {
-    Thousandths(u64),
-    Absent,
-}
+impl From<Result<Tally, Refusal>> for TallyAnswer {
+    ghost from_gives = { λ outcome answer. answer ≡ answered outcome };
 
-impl Tally {
-    /// The tally of no jobs.
-    fn none() -> Tally
-        ensures { result ≡ no_tally }
-    {
-        Tally {
-            jobs: 0,
-            started: 0,
-            kept: 0,
-            discarded: 0,
-            pending: 0,
+    fn from(outcome: Result<Tally, Refusal>) -> TallyAnswer {
+        match outcome {
+            Ok(tally) => TallyAnswer { refusal: 0, tally },
+            Err(refusal) => TallyAnswer {
+                refusal: u8::from(refusal),
+                tally: Tally::default(),
+            },
         }
-    }
-}
-
-impl TallyAnswer {
-    /// The answer of a refused call.
-    fn refused(refusal: u8) -> TallyAnswer
-        ensures { result ≡ refused refusal }
-    {
-        let tally = Tally::none();
-        TallyAnswer { refusal, tally }
     }
 }

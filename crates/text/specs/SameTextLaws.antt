@@ -2,6 +2,7 @@
 use Rattle.std.specs.Prelude.{ℕ, suc, ◌+◌, ◌<◌, ◌≤◌, true, false, ◌&&◌, List, [], ◌∷◌, ◌≡◌, refl, eqb, length, drop, get_or}
 use Rattle.std.proofs.Common.{add-one, ap, drop_of_length-le, drop-cons, eqb-true, eq-eqb}
 use Rattle.laws.specs.SearchLaws.{clash, and_left, and_right, and_false}
+use Rattle.std.specs.Cmp.Lexicographic.{pointwise}
 use Rattle.text.specs.SameText.{same_text}
 
 -- The test holds of equal lists, and of no others.
@@ -25,7 +26,15 @@ equal_same bytes text e = rw e (itself text)
     itself [] = refl
     itself (byte ∷ text) = rw (eq-eqb byte byte refl) (itself text)
 
--- The same from a place on, as a loop over the bytes meets them.
+-- It is what `==` tells of two slices of bytes.
+pub equal_is_same : (bytes text : List ℕ) → pointwise eqb bytes text ≡ same_text bytes text
+unfolding same_text
+equal_is_same [] [] = refl
+equal_is_same [] (byte ∷ text) = refl
+equal_is_same (byte ∷ bytes) [] = refl
+equal_is_same (byte ∷ bytes) (byte' ∷ text) = rw (equal_is_same bytes text)
+
+-- The same from a place on.
 
 pub same_at : (bytes text : List ℕ) (i : ℕ) → i < length bytes → i < length text
     → same_text (drop i bytes) (drop i text)

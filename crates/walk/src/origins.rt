@@ -2,13 +2,11 @@
 //! for as the bits of a word.
 
 ghost use Rattle.std.specs.Prelude.{◌≡◌, ◌<◌};
-ghost use Rattle.dependence.specs.Job.{job_at};
 ghost use Rattle.cellset.specs.ConflictWords.{Within};
 ghost use Rattle.walk.specs.Origins.{AllPlain, wanted_at, is_met, source_or, noted_in, found_by, walk_past, origins_of};
 
-use crate::looks_back;
 use cellset::Cells;
-use dependence::Job;
+use dependence::{Job, PREDICTED_WRITE};
 use jobset::JobSet;
 
 /// Where the values of a speculative run come from: for each place the job whose report gives the value, as one more than its
@@ -27,16 +25,14 @@ struct Walk {
     bypassed: JobSet,
 }
 
-/// Whether the job's cell at the place is one of those wanted.
+/// Whether the job's cell at the place is one of those wanted. (That each cell has a bit is asked of the job here and below, and
+/// not tested: the walk meets every earlier job.)
+#[tactic(auto, unfolding(jobset::specs::JobSet::bit))]
 fn wanted_at(job: Job, wanted: u64, place: usize) -> bool
     requires { (place < 4) × Within job }
     ensures { result ≡ wanted_at job wanted place }
 {
-    if (job.arity as usize) <= place {
-        return false;
-    }
-    let access = job.accesses[place];
-    (wanted >> access.cell) % 2 == 1
+    place < job.arity as usize && (wanted >> job.accesses[place].cell) % 2 == 1
 }
 
 /// Whether the earlier job is not committed (`how` is 0) and names one of the cells wanted. Any other is passed by.
@@ -44,31 +40,26 @@ fn is_met(earlier: Job, how: u8, wanted: u64) -> bool
     requires { Within earlier }
     ensures { result ≡ is_met earlier how wanted }
 {
-    if how != 0 {
-        return false;
-    }
-    let mut place: usize = 0;
-    while place < 4 {
-        if wanted_at(earlier, wanted, place) {
-            return true;
-        }
-        place += 1;
-    }
-    false
+    let open = how == 0;
+    open && (0..4).any(|place| wanted_at(earlier, wanted, place))
 }
 
-/// The number where the place looks back for one of the cells met, else the old one.
+/// The number where the place looks back for one of the cells met, else the old one. It does where it is in use and its cell not
+/// predicted.
+#[tactic(auto, unfolding(jobset::specs::JobSet::bit))]
 fn source_or(job: Job, met: u64, number: u8, place: usize, old: u8) -> u8
     requires { (place < 4) × Within job }
     ensures { result ≡ source_or job met number place old }
 {
-    if looks_back(job, place) {
-        let access = job.accesses[place];
-        if (met >> access.cell) % 2 == 1 {
-            return number;
-        }
+    let access = job.accesses[place];
+    if place < job.arity as usize
+        && access.mode != PREDICTED_WRITE
+        && (met >> access.cell) % 2 == 1
+    {
+        number
+    } else {
+        old
     }
-    old
 }
 
 /// The sources with the number noted at the places that look back for the cells met.
@@ -76,11 +67,7 @@ fn noted(job: Job, met: u64, number: u8, sources: [u8; 4]) -> [u8; 4]
     requires { Within job }
     ensures { result ≡ noted_in job met number sources }
 {
-    let a = source_or(job, met, number, 0, sources[0]);
-    let b = source_or(job, met, number, 1, sources[1]);
-    let c = source_or(job, met, number, 2, sources[2]);
-    let d = source_or(job, met, number, 3, sources[3]);
-    [a, b, c, d]
+    std::array::from_fn(|place| source_or(job, met, number, place, sources[place]))
 }
 
 impl Walk {
@@ -93,30 +80,30 @@ impl Walk {
         let cells = Cells::of(earlier);
         let met = self.wanted & cells.sure;
         let wanted = (self.wanted | cells.sure) ^ cells.sure;
-        let old = self.sources;
-        let bypassed = self.bypassed;
-        let sources = noted(job, met, (k + 1) as u8, old);
-        if wanted & cells.written == 0 {
-            return Walk {
-                wanted,
-                sources,
-                bypassed,
-            };
-        }
-        let more = bypassed.with(k);
+        let sources = noted(job, met, (k + 1) as u8, self.sources);
+        let bypassed = if wanted & cells.written == 0 {
+            self.bypassed
+        } else {
+            self.bypassed.with(k)
+        };
         Walk {
             wanted,
             sources,
-            bypassed: more,
+            bypassed,
         }
     }
+}
 
+impl From<Walk> for Origins {
     /// What was found.
-    fn found(self) -> Origins
-        ensures { result ≡ found_by self }
+    fn from(walk: Walk) -> Origins
+        ensures { result ≡ found_by walk }
     {
-        let sources = self.sources;
-        let bypassed = self.bypassed;
+        let Walk {
+            sources,
+            bypassed,
+            ..
+        } = walk;
         Origins { sources, bypassed }
     }
 }
@@ -132,21 +119,17 @@ impl Origins {
         let mut walk = Walk {
             wanted: cells.back,
             sources: [0; 4],
-            bypassed: JobSet { low: 0, high: 0 },
+            bypassed: JobSet::empty(),
         };
-        let mut i = j;
-        while 0 < i {
+        for i in (0..j).rev() {
             if walk.wanted == 0 {
-                return walk.found();
+                break;
             }
-            let k = i - 1;
-            let earlier = jobs[k];
-            if is_met(earlier, committed[k], walk.wanted) {
-                let next = walk.past(job, earlier, k);
-                walk = next;
+            let earlier = jobs[i];
+            if is_met(earlier, committed[i], walk.wanted) {
+                walk = walk.past(job, earlier, i);
             }
-            i = k;
         }
-        walk.found()
+        Origins::from(walk)
     }
 }

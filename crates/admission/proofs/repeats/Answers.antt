@@ -1,27 +1,42 @@
--- `repeats` meets its contract: the loop searches the places before i.
-use native.Mathlib.Omega.{arith}
-use mathlib.Core.Path.{sym}
-use borrow.Author.Tests.{eq-eqb, ne_eqb}
-use Rattle.laws.specs.SearchLaws.{any_none, any_found, any_more, missed}
+-- `repeats` meets its contract: each access in use is asked whether its cell stands before.
+use Rattle.std.proofs.Common.{ℕ, Bool, List, ◌≡◌, refl, rules, tests, arith, ap, sym, eqb, min, length, length-take, get_or, take, ◌∙◌}
+use Rattle.std.specs.List.{list_any, enumerate_from}
+use Rattle.std.proofs.lemmas.Iterator.{YieldsList-from_slice}
+use Rattle.std.proofs.lemmas.Iterator.Consumers.{YieldsList-from_enumerate}
+use Rattle.std.proofs.lemmas.Iterator.Search.{any_from_yields_List}
+use Rattle.laws.specs.Search.{any_below}
+use Rattle.laws.specs.SearchLaws.{any_same}
+use Rattle.dependence.specs.declared.Access.{Access}
+use Rattle.dependence.specs.declared.Job.{Job}
+use Rattle.dependence.specs.Job.{no_access}
+use Rattle.dependence.specs.PlaceLaws.{any_first, any_in_use, any_numbered, used_at}
+use Rattle.admission.specs.Admission.{cell_before, cell_twice}
 use Rattle.admission.proofs.repeats.Goals as goal
 
--- before the first turn
-pub loop-k-init : goal.loop-k-init
-loop-k-init c = (omega arith, any_none _)
+abbrev before : List Access → ℕ × Access → Bool
+before used x = list_any (λ access. eqb access.cell x.1.cell) (take x.0 used)
 
--- place k has the cell
-pub returns-then-earlier-access : goal.returns-then-earlier-access
-returns-then-earlier-access c =
-    sym (any_found _ _ _ c.loop-k-test.true (eq-eqb _ _ c.if-earlier-access.true))
+twice : (job : Job) → length job.accesses ≡ 4
+    → list_any (before (take job.arity job.accesses)) (enumerate_from 0 (take job.arity job.accesses)) ≡ cell_twice job
+twice job four =
+    let used = take job.arity job.accesses in
+    let many : length used ≡ min job.arity 4 = rw four at (length-take job.arity job.accesses) in
+    let same = λ (i : ℕ) (k : ℕ). eqb (get_or used k no_access).cell (get_or used i no_access).cell in
+    let earlier = λ (i : ℕ). any_below i (cell_before job i) in
+    any_numbered (before used) used no_access
+    ∙ any_same (length used) (λ i. before used (i, get_or used i no_access)) earlier
+    (λ i l.
+    let at = used_at job.accesses used job.arity i no_access refl l in
+    any_first (λ access. eqb access.cell (get_or used i no_access).cell) used no_access i (omega (arith, l))
+    ∙ any_same i (same i) (cell_before job i)
+    (λ k m. let first = used_at job.accesses used job.arity k no_access refl (omega (arith, l, m)) in rw (first.2, at.2)))
+    ∙ ap (λ n. any_below n earlier) many
+    ∙ sym (any_in_use 4 job.arity earlier)
 
--- place k has another cell
-pub loop-k-preserved : goal.loop-k-preserved
-loop-k-preserved c =
-    let l = c.loop-k in
-    (omega arith, any_more _ _ l.invariant.1 (ne_eqb _ _ c.if-earlier-access.false))
-
--- no place before i has the cell
 pub returns : goal.returns
 returns c =
-    let l = c.loop-k in
-    missed _ _ _ l.invariant.0 c.loop-k-test.false l.invariant.1
+    let job = c.args.job in
+    let used = take job.arity job.accesses in
+    any_from_yields_List (before used) _ _ c.any.result c.any.ensures.ran (YieldsList-from_enumerate (YieldsList-from_slice used (cc)) (search rules))
+    (λ x b q k. search (rules, tests))
+    ∙ twice job (search rules)

@@ -1,32 +1,29 @@
 -- `is_ready` meets its contract: a search over the earlier jobs.
-use native.Mathlib.Omega.{arith}
-use mathlib.Core.Bool.{not}
-use mathlib.Core.Path.{◌≡◌, ap, sym}
-use lib.ListN.{length}
-use borrow.Author.Rules.{rules}
-use Rattle.laws.specs.SearchLaws.{any_none, found, passed, missed}
-use Rattle.dependence.specs.Ready.{ready}
+use Rattle.std.proofs.Common.{rules, tests, ap, sym, ltb-false, ℕ, not, ◌∙◌, ◌≡◌, length}
+use Rattle.std.proofs.lemmas.Iterator.{YieldsList-from_slice, YieldsList-from_take, YieldsList-from_zip}
+use Rattle.std.proofs.lemmas.Iterator.Search.{any_from_yields_List}
+use Rattle.dependence.specs.declared.Job.{Job}
+use Rattle.dependence.specs.Job.{no_job, job_at}
+use Rattle.dependence.specs.PlaceLaws.{any_beside}
+use Rattle.dependence.specs.Ready.{waits_for, ready}
 use Rattle.dependence.specs.ReadyLaws.{ready_past}
 use Rattle.dependence.proofs.is_ready.Goals as goal
 
 -- no such job
-pub returns-then-j-ge128 : goal.returns-then-j-ge128
-returns-then-j-ge128 c =
-    let long : length c.args.jobs ≡ 128 = search rules in
-    sym (ready_past _ _ _ (omega arith))
+pub returns-in_default : goal.returns-in_default
+returns-in_default c =
+    let past = ltb-false c.args.j (length c.args.jobs) (sym c.in_default.ensures.lookup.0) in
+    sym (ready_past c.args.jobs c.args.committed c.args.j past)
 
-pub loop-i-init : goal.loop-i-init
-loop-i-init c = (omega arith, any_none _)
-
--- a job that blocks it
-pub returns-then-waits_for : goal.returns-then-waits_for
-unfolding ready
-returns-then-waits_for c = ap not (found _ _ _ c.loop-i-test.true c.waits_for.ensures c.if-waits_for.true)
-
-pub loop-i-preserved : goal.loop-i-preserved
-loop-i-preserved c = (omega arith, passed _ _ c.loop-i.invariant.1 c.waits_for.ensures c.if-waits_for.false)
-
--- no earlier job does
 pub returns : goal.returns
 unfolding ready
-returns c = ap not (missed _ _ _ c.loop-i.invariant.0 c.loop-i-test.false c.loop-i.invariant.1)
+returns c =
+    let a = c.args in
+    let waits = λ (x : Job × ℕ). waits_for c.in-Some.job.now x.0 x.1 in
+    let found =
+    any_from_yields_List waits c.any.new.self _ c.any.result c.any.ensures.ran
+    (YieldsList-from_take a.j (YieldsList-from_zip (YieldsList-from_slice a.jobs (cc)) (YieldsList-from_slice a.committed (cc))) c.take.ensures.count)
+    (λ x b q k. search (rules, tests))
+    ∙ any_beside waits a.jobs a.committed no_job 0 a.j (search rules) (search rules) in
+    let there : c.in-Some.job.now ≡ job_at a.jobs a.j = search rules in
+    ap not (rw there at found)

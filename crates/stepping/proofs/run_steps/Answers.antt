@@ -1,42 +1,41 @@
 -- `run_steps` meets its contract: what finishes the lines that are left finishes all of them.
-use native.Mathlib.Omega.{arith}
-use mathlib.Core.List.{[]}
-use mathlib.Core.Path.{◌≡◌, refl, sym, ◌∙◌}
-use lib.ListN.{drop, drop_of_length-le}
-use Rattle.text.specs.Pieces.{line_feed}
-use Rattle.text.proofs.PieceLaws.{last_piece, next_piece}
-use Rattle.render.specs.PutLaws.{put_then, put_none, put_long}
-use Rattle.stepping.specs.SteppingLaws.{no_lines, text_next, after_next, text_last, after_last}
+use Rattle.std.proofs.Common.{ℕ, Option, None, Some, ◌≡◌, sym, ◌∙◌}
+use Rattle.std.specs.Option.{unwrap_or, UnwrapsOrElse}
+use Rattle.steplines.specs.declared.StepLine.{StepLine}
+use Rattle.steplines.specs.StepLines.{no_step}
+use Rattle.text.proofs.PieceLaws.{rest_from}
+use Rattle.render.specs.PutLaws.{wrote_then, wrote_none}
+use Rattle.stepping.specs.SteppingLaws.{text_next, after_next, text_last, after_last}
 use Rattle.stepping.proofs.run_steps.Goals as goal
 
--- past the last byte there is no line
-pub returns-then-bytes-from : goal.returns-then-bytes-from
-returns-then-bytes-from c =
-    let a = c.args in
-    let none : drop a.from a.bytes.now ≡ [] = drop_of_length-le a.bytes.now {i = a.from} (omega arith) in
-    record { put = rw (none, no_lines, text_last) (put_none _ _); batch_value = sym (rw (none, no_lines, after_last)) }
-
--- before the first turn all lines are left
-pub loop-held-init : goal.loop-held-init
-loop-held-init c = (omega arith, refl, (λ d r q. q), refl)
-
--- at the end no line is left: what stands behind the last line feed is none
-pub returns-then-stop-bytes : goal.returns-then-stop-bytes
-returns-then-stop-bytes c =
-    let loop = c.loop-held in
-    let bytes = c.args.bytes.now in
-    let p = last_piece line_feed bytes loop.at c.cut-stop.result c.cut-stop.ensures.value loop.invariant.0 c.if-stop-bytes.true in record { put = loop.invariant.2 _ _ (rw (p, text_last) (put_none _ _)); batch_value = sym (loop.invariant.3 ∙ rw (p, after_last)) }
+-- a line that is not in form is tried as the default step line
+tried_is : (o : Option StepLine) {r : StepLine} → UnwrapsOrElse o (λ (x : StepLine). (x.step ≡ 0) × (x.job ≡ 0)) r → unwrap_or o no_step ≡ r
+tried_is None {r} h = both r.step r.job h.0 h.1
+  where
+    both : (step job : ℕ) → step ≡ 0 → job ≡ 0 → no_step ≡ record { step = step; job = job }
+    both step job e f = rw (e, f)
+tried_is (Some x) h = sym h
 
 -- a turn: one line less is left, its answer is written, and the batch is as its step left it
-pub loop-held-preserved : goal.loop-held-preserved
-loop-held-preserved c =
-    let loop = c.loop-held in
-    let bytes = c.args.bytes.now in
-    let p = next_piece line_feed bytes loop.at c.cut-stop.result c.cut-stop.ensures.value loop.invariant.0 (omega arith) in (
-      omega arith,
-      put_long c.put_pair-after.ensures ∙ loop.invariant.1,
-      (λ d r q.
-          loop.invariant.2 d r
-          (rw (p, text_next, ← c.step_in-line.ensures, ← c.perform-done.ensures) (put_then c.put_pair-after.ensures q))),
-      loop.invariant.3 ∙ rw (p, after_next, ← c.step_in-line.ensures, ← c.perform-done.ensures),
+pub loop-line-preserved : goal.loop-line-preserved
+loop-line-preserved c =
+    let loop = c.loop-line in
+    let cut = c.in-Some.ensures in
+    let given = tried_is c.step_in.result c.unwrap_or_default-tried.ensures in (
+      (λ d q.
+          loop.invariant.0 d
+          (rw (cut.1, text_next, ← c.step_in.ensures, given, ← c.perform-done.ensures)
+          (wrote_then (rw (c.from.ensures, c.from-in-Some.ensures) at c.pair.ensures) q))),
+      loop.invariant.1 ∙ rw (cut.1, after_next, ← c.step_in.ensures, given, ← c.perform-done.ensures),
     )
+
+-- at the end no line is left: what stands behind the last line feed is none
+pub returns-clause-wrote : goal.returns-clause-wrote
+returns-clause-wrote c =
+    let whole = rest_from c.args.bytes.now c.args.from c.min.result c.min.ensures in
+    rw (← whole) (c.loop-line.invariant.0 _ (rw (c.in_default.ensures, text_last) (wrote_none _)))
+
+pub returns-clause-batch_value : goal.returns-clause-batch_value
+returns-clause-batch_value c =
+    let whole = rest_from c.args.bytes.now c.args.from c.min.result c.min.ensures in
+    rw (← whole) (sym (c.loop-line.invariant.1 ∙ rw (c.in_default.ensures, after_last)))

@@ -1,24 +1,13 @@
--- `field_count` meets its contract: the fields of the line are those counted and those of what stands from `at` on.
-use native.Mathlib.Omega.{arith}
+-- `field_count` meets its contract: what `split` gives are the pieces, as many as `count` says.
+use Rattle.std.proofs.Common.{rules, tests, eqb}
+use Rattle.std.proofs.lemmas.Iterator.Consumers.{count_from_yields_List}
+use Rattle.std.proofs.lemmas.Iterator.Splits.{YieldsList-from_slice_split}
 use Rattle.text.specs.Pieces.{space}
-use Rattle.text.proofs.PieceLaws.{last_piece, next_piece}
+use Rattle.text.proofs.PieceLaws.{pieces_split}
 use Rattle.text.proofs.field_count.Goals as goal
 
--- at first the rest is the line
-pub loop-at-init : goal.loop-at-init
-loop-at-init c = (omega arith, omega arith, omega arith)
-
--- the last field
-pub returns-then-next-line : goal.returns-then-next-line
-returns-then-next-line c =
-    let l = c.loop-at in
-    let line = c.args.line.now in
-    omega (arith, rw (last_piece space line l.at c.cut-next.result c.cut-next.ensures.value l.invariant.0 c.if-next-line.true) at l.invariant.2)
-
--- one field more
-pub loop-at-preserved : goal.loop-at-preserved
-loop-at-preserved c =
-    let l = c.loop-at in
-    let line = c.args.line.now in
-    let p = next_piece space line l.at c.cut-next.result c.cut-next.ensures.value l.invariant.0 (omega arith) in
-    (omega arith, omega arith, omega (arith, rw p at l.invariant.2))
+pub returns : goal.returns
+returns c =
+    rw (pieces_split space c.args.line.now)
+    (count_from_yields_List _ _ c.count.ensures.ran
+    (YieldsList-from_slice_split _ (λ x. eqb x space) c.args.line.now c.split.ensures.rest c.split.ensures.done c.split.ensures.closure (λ x b q k. search (rules, tests))))

@@ -1,52 +1,41 @@
--- `put_cells` meets its contract: after x turns the lines of the cells below x are written.
-use Prim.Native.Nat.{◌<◌}
-use native.Mathlib.Omega.{arith}
-use mathlib.Core.Path.{◌≡◌}
+-- `put_cells` meets its contract: the lines of the cells below x are written.
+use Rattle.std.proofs.Common.{◌<◌, ◌≡◌, arith, rules}
 use mir.Syntax.{w32}
 use mir.Val.{SFits}
 use mir.Facts.{to_z-of_z}
-use borrow.Author.Rules.{rules}
+use Rattle.engine.specs.Ask.{asked_cell}
+use Rattle.render.specs.PutLaws.{wrote_then}
 use Rattle.render.specs.Text.{height_line}
-use Rattle.render.specs.PutLaws.{put_then, put_none}
 use Rattle.answer.specs.Output.{cell_line, cells_text}
 use Rattle.answer.specs.Lengths.{below_more, below_length, byte_and_height}
 use Rattle.answer.proofs.parts.put_cells.Goals as goal
-use Rattle.answer.proofs.parts.put_cells.Lts as lts
-use Rattle.answer.proofs.parts.put_cells.Tie as tie
-use Rattle.answer.proofs.parts.put_cells.Reads as reads
-
--- places that the lemmas below speak of
-abbrev After-progress-progress : Type 0
-After-progress-progress = lts.After-progress tie.the-claims reads.Pre reads.Post goal.the-invariant-loop-x goal.the-decreases-loop-x tie.handed_clauses
-
--- the count of cells is a byte
-few_cells : (c : After-progress-progress) → c.progress-progress.result.cell_count < 256
-few_cells c = search rules
-
--- before the first turn nothing is written
-pub loop-x-init : goal.loop-x-init
-loop-x-init c = (omega arith, put_none _ _, omega arith)
 
 -- a turn: one line more, of a byte and a height of 32 bits
 pub loop-x-preserved : goal.loop-x-preserved
 loop-x-preserved c =
     let loop = c.loop-x in
     let batch = c.args.batch in
-    let few = few_cells c.before.before.before.before.before.before.before.before.before.before in
-    let fits : SFits w32 c.cell-told.result.height = search rules in
-    let line : height_line loop.x c.cell-told.result.height ≡ cell_line batch loop.x = rw (← c.cell-told.ensures) in (
-      omega arith,
+    let told = c.cell-told.result in
+    let asked : told ≡ asked_cell batch loop.x = rw c.from.ensures at c.cell-told.ensures in
+    let few : c.progress-x-end.result.cell_count < 256 = search rules in
+    let fits : SFits w32 told.height = search rules in
+    let line : height_line loop.x told.height ≡ cell_line batch loop.x = rw (← asked) in (
       rw (below_more loop.x (cell_line batch), ← line)
-          (put_then loop.invariant.1 (rw (to_z-of_z fits) at c.put_height_line-after.ensures)),
-      below_length loop.x (cell_line batch) 16 loop.invariant.2
-          (rw (← line) (byte_and_height _ _ (omega arith) fits.sfits)),
+          (wrote_then loop.invariant.0 (rw (c.from-in-loop-x.ensures, to_z-of_z fits) at c.height_line.ensures)),
+      below_length loop.x (cell_line batch) 16 loop.invariant.1 (rw (← line) (byte_and_height _ _ (omega arith) fits.sfits)),
     )
 
--- at the end all cells have their lines, at most 255 of them
-pub returns : goal.returns
+-- at the end all cells have their lines
+pub returns-clause-wrote : goal.returns-clause-wrote
 unfolding cells_text
-returns c =
-    let loop = c.loop-x in
-    let few = few_cells c.before.before.before in
-    let all : loop.x ≡ c.progress-progress.result.cell_count = omega arith in
-    rw (← c.progress-progress.ensures) record { put = rw all at loop.invariant.1; batch_len_bound = omega (arith, rw all at loop.invariant.2) }
+returns-clause-wrote c =
+    let all : c.loop-x.x ≡ c.progress-x-end.result.cell_count = omega arith in
+    rw (← c.progress-x-end.ensures) (rw all at c.loop-x.invariant.0)
+
+-- at most 255 of them
+pub returns-clause-batch_len_bound : goal.returns-clause-batch_len_bound
+unfolding cells_text
+returns-clause-batch_len_bound c =
+    let all : c.loop-x.x ≡ c.progress-x-end.result.cell_count = omega arith in
+    let few : c.progress-x-end.result.cell_count < 256 = search rules in
+    rw (← c.progress-x-end.ensures) (omega (arith, rw all at c.loop-x.invariant.1))

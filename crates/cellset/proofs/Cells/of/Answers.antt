@@ -1,22 +1,25 @@
 -- `Cells::of` meets its contract: the places in use one after the other.
-use native.Mathlib.Omega.{arith}
-use Prim.Native.Nat.{min}
-use mathlib.Core.Path.{◌≡◌, ◌∙◌}
-use Rattle.cellset.specs.CellLaws.{cells_none, cells_more, cells_used}
+use Rattle.std.proofs.Common.{arith, ◌≡◌, ◌∙◌, ◌<◌, min, length, length-take, get_or-take, rules}
+use Rattle.dependence.specs.declared.Access.{Access}
+use Rattle.dependence.specs.Job.{no_access}
+use Rattle.cellset.specs.CellLaws.{cells_next, cells_used}
 use Rattle.cellset.proofs.Cells.of.Goals as goal
 
-pub loop-i-init : goal.loop-i-init
-loop-i-init c = (omega arith, c.places-used.ensures, c.none-cells.ensures ∙ cells_none c.args.job)
-
-pub loop-i-preserved : goal.loop-i-preserved
-loop-i-preserved c =
-    let l = c.loop-i in
-    (omega arith, l.invariant.1, c.with-next.ensures ∙ rw l.invariant.2 (cells_more c.args.job l.i))
+pub loop-access-preserved : goal.loop-access-preserved
+loop-access-preserved c =
+    let l = c.loop-access in
+    let job = c.args.job in
+    let long : length job.accesses ≡ 4 = search rules in
+    let low : l.access-index < min job.arity 4 = omega (arith, length-take {A = Access}) in
+    c.with-cells.ensures
+    ∙ rw (get_or-take c.min-used.result job.accesses l.access-index no_access (omega arith), l.invariant)
+    (cells_next job l.access-index (omega arith))
 
 -- all that are in use
 pub returns : goal.returns
 returns c =
-    let l = c.loop-i in
+    let l = c.loop-access in
     let job = c.args.job in
-    let e : l.i ≡ min job.arity 4 = omega arith in
-    l.invariant.2 ∙ rw e (cells_used job)
+    let long : length job.accesses ≡ 4 = search rules in
+    let e : l.access-index ≡ min job.arity 4 = omega (arith, length-take {A = Access}) in
+    l.invariant ∙ rw e (cells_used job)

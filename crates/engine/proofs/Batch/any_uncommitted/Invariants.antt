@@ -1,5 +1,4 @@
 -- `Batch::any_uncommitted` meets its contract: a search over the jobs held.
-use Prim.Native.Nat.{◌≤◌, ◌-◌}
 use mathlib.Core.Bool.{false}
 use mathlib.Core.Path.{◌≡◌}
 use Rattle.laws.specs.Search.{any_below}
@@ -8,7 +7,4 @@ use Rattle.engine.proofs.Batch.any_uncommitted.Given as goal
 
 -- each job passed is committed
 abbrev pub invariant-loop-j : goal.invariant-loop-j
-invariant-loop-j l = (l.j ≤ l.n) × (l.n ≡ l.self.job_count) × (l.n ≤ 128) × (any_below l.j (uncommitted_at l.self) ≡ false)
-
-abbrev pub decreases-loop-j : goal.decreases-loop-j
-decreases-loop-j l = l.n - l.j
+invariant-loop-j l = any_below l.j (uncommitted_at l.self) ≡ false

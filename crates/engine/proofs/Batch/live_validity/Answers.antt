@@ -11,24 +11,24 @@ use Rattle.engine.proofs.Batch.live_validity.Goals as goal
 pub returns-then-is_stale : goal.returns-then-is_stale
 returns-then-is_stale c =
     let a = c.args in
-    let due : is_ready (snapshot_of a.self) a.j ≡ true =
-    ready_is a.self a.j ∙ sym c.is_ready.ensures ∙ c.if-is_ready.true in
-    let compared : run_stale a.self a.j ≡ true = sym c.is_stale.ensures ∙ c.if-is_stale.true in
-    rw (due, compared)
-
--- it is valid
-pub returns-then-is_ready : goal.returns-then-is_ready
-returns-then-is_ready c =
-    let a = c.args in
-    let due : is_ready (snapshot_of a.self) a.j ≡ true =
-    ready_is a.self a.j ∙ sym c.is_ready.ensures ∙ c.if-is_ready.true in
-    let compared : run_stale a.self a.j ≡ false = sym c.is_stale.ensures ∙ c.if-is_stale.false in
+    let due : is_ready (snapshot_of a.self.now) a.j ≡ true =
+    ready_is a.self.now a.j ∙ sym c.is_ready.ensures ∙ c.if-not-is_ready.false in
+    let compared : run_stale a.self.now a.j ≡ true = sym c.is_stale.ensures ∙ c.if-is_stale.true in
     rw (due, compared)
 
 -- its job is not ready
+pub returns-then-not-is_ready : goal.returns-then-not-is_ready
+returns-then-not-is_ready c =
+    let a = c.args in
+    let early : is_ready (snapshot_of a.self.now) a.j ≡ false =
+    ready_is a.self.now a.j ∙ sym c.is_ready.ensures ∙ c.if-not-is_ready.true in
+    rw early
+
+-- it is valid
 pub returns : goal.returns
 returns c =
     let a = c.args in
-    let early : is_ready (snapshot_of a.self) a.j ≡ false =
-    ready_is a.self a.j ∙ sym c.is_ready.ensures ∙ c.if-is_ready.false in
-    rw early
+    let due : is_ready (snapshot_of a.self.now) a.j ≡ true =
+    ready_is a.self.now a.j ∙ sym c.is_ready.ensures ∙ c.if-not-is_ready.false in
+    let compared : run_stale a.self.now a.j ≡ false = sym c.is_stale.ensures ∙ c.if-is_stale.false in
+    rw (due, compared)

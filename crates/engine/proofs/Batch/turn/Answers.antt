@@ -23,8 +23,9 @@ use Rattle.engine.specs.TurnChange.{changes_from}
 use Rattle.engine.specs.Change.{plain_change, standing_at, change_on, with_change}
 use Rattle.engine.specs.ChangeLaws.{plain_made, change_made}
 use Rattle.engine.specs.TurnForm.{change_keeps_form}
+use Rattle.engine.specs.FormLaws.{form_counts}
 use Rattle.engine.proofs.Batch.turn.Goals as goal
-use Rattle.engine.proofs.Batch.turn.Goals.{else-number-ne-NO_REPORT, then-number-ne-NO_REPORT+else-n-j+else-change-ne0}
+use Rattle.engine.proofs.Batch.turn.Goals.{else-number-ne-NO_REPORT, then-number-ne-NO_REPORT+else-self-j+else-change-ne0}
 
 -- a report asks nothing of other jobs, so its change is made without a look at them
 report_made : (b : Batch) (number j : ℕ) (report : Report) {made : Change} → is_report number ≡ true → in_form b ≡ true
@@ -55,178 +56,93 @@ same_from : {b c : Batch} {noted stored : List JobRun} {first before most limit 
     → most ≡ limit → changes_from b no_steps noted 0 first most ≡ changes_from c no_steps stored 0 before limit
 same_from e f g h = rw (e, f, g, h)
 
--- a count
-pub returns-then-counts_out : goal.returns-then-counts_out
-returns-then-counts_out r =
-    let a = r.args in
-    r.refused_turn.ensures ∙ turn_out_of_form a.self a.number a.j a.report a.limit (counts_out_of_form a.self r.counts_out.ensures r.if-counts_out.true)
-
-pub top_of-requires : goal.top_of-requires
-top_of-requires c =
-    few_jobs c.args.self c.counts_out.ensures c.if-counts_out.false
-
--- a column
-pub returns-then-top_of-gt2 : goal.returns-then-top_of-gt2
-returns-then-top_of-gt2 r =
-    let a = r.args in
-    r.refused_turn-then-top_of-gt2.ensures ∙ turn_out_of_form a.self a.number a.j a.report a.limit (committed_out_of_form a.self r.top_of.ensures r.if-top_of-gt2.true)
-
-pub top_of-requires-2 : goal.top_of-requires-2
-top_of-requires-2 c =
-    few_jobs c.args.self c.counts_out.ensures c.if-counts_out.false
-
-pub returns-then-top_of-gt1 : goal.returns-then-top_of-gt1
-returns-then-top_of-gt1 r =
-    let a = r.args in
-    r.refused_turn-then-top_of-gt1.ensures ∙ turn_out_of_form a.self a.number a.j a.report a.limit (running_out_of_form a.self r.top_of-2.ensures r.if-top_of-gt1.true)
-
-pub top_of-requires-3 : goal.top_of-requires-3
-top_of-requires-3 c =
-    few_jobs c.args.self c.counts_out.ensures c.if-counts_out.false
-
-pub returns-then-top_of-gt3 : goal.returns-then-top_of-gt3
-returns-then-top_of-gt3 r =
-    let a = r.args in
-    r.refused_turn-then-top_of-gt3.ensures ∙ turn_out_of_form a.self a.number a.j a.report a.limit (phase_out_of_form a.self r.top_of-3.ensures r.if-top_of-gt3.true)
-
-pub loop-i-init : goal.loop-i-init
-loop-i-init c =
-    let b = c.args.self in
-    let counts = c.counts_out.ensures in (
-      omega arith,
-      few_jobs b counts c.if-counts_out.false,
-      refl,
-      states_in b counts c.if-counts_out.false c.top_of.ensures c.if-top_of-gt2.false
-          c.top_of-2.ensures c.if-top_of-gt1.false c.top_of-3.ensures c.if-top_of-gt3.false,
-      any_none _,
-    )
-
--- a job
-pub returns-then-is_refused : goal.returns-then-is_refused
-returns-then-is_refused r =
-    let a = r.args in
-    r.refused_turn-then-is_refused.ensures ∙ turn_out_of_form a.self a.number a.j a.report a.limit (refused_out_of_form a.self r.loop-i.i (rw (← r.loop-i.invariant.2) r.loop-i-test.true) r.is_refused.ensures r.if-is_refused.true)
-
-pub loop-i-preserved : goal.loop-i-preserved
-loop-i-preserved c =
-    let l = c.loop-i in
-    (omega arith, l.invariant.1, l.invariant.2, l.invariant.3, passed _ _ l.invariant.4 c.is_refused.ensures c.if-is_refused.false)
-
-pub loop-k-init : goal.loop-k-init
-loop-k-init c =
-    let b = c.args.self in
-    let l = c.loop-i in
-    (omega arith, l.invariant.1, l.invariant.2, l.invariant.3, sym (missed _ _ (refused_at b) l.invariant.0 c.loop-i-test.false l.invariant.4), any_none _)
-
--- a run
-pub returns-then-run_out : goal.returns-then-run_out
-returns-then-run_out r =
-    let a = r.args in
-    r.refused_turn-then-run_out.ensures ∙ turn_out_of_form a.self a.number a.j a.report a.limit (run_out_of_form a.self r.loop-k.k (rw (← r.loop-k.invariant.2) r.loop-k-test.true) r.run_out.ensures r.if-run_out.true)
-
-pub loop-k-preserved : goal.loop-k-preserved
-loop-k-preserved c =
-    let l = c.loop-k in
-    (omega arith, l.invariant.1, l.invariant.2, l.invariant.3, l.invariant.4, passed _ _ l.invariant.5 c.run_out.ensures c.if-run_out.false)
+-- out of form
+pub returns-then-not-is_in_form : goal.returns-then-not-is_in_form
+returns-then-not-is_in_form c =
+    let a = c.args in
+    c.refused_turn.ensures ∙ turn_out_of_form a.self a.number a.j a.report a.limit (sym c.is_in_form.ensures ∙ c.if-not-is_in_form.true)
 
 -- another number
 pub returns-then-not-begins : goal.returns-then-not-begins
 returns-then-not-begins r =
-    let i = r.loop-k.invariant in
     let a = r.args in
-    let form = all_seen a.self i.2 i.3 i.4 i.0 r.loop-k-test.false i.5 in
+    let form = sym r.is_in_form.ensures ∙ r.if-not-is_in_form.false in
     r.refused_turn-then-not-begins.ensures
     ∙ turn_other a.self a.number a.j a.report a.limit (sym r.begins_turn-begins.ensures ∙ r.if-not-begins.true) form
 
 -- not sealed
 pub returns-then-self-eq0 : goal.returns-then-self-eq0
 returns-then-self-eq0 r =
-    let i = r.loop-k.invariant in
     let a = r.args in
-    let form = all_seen a.self i.2 i.3 i.4 i.0 r.loop-k-test.false i.5 in
+    let form = sym r.is_in_form.ensures ∙ r.if-not-is_in_form.false in
     r.refused_turn-then-self-eq0.ensures
     ∙ turn_unsealed a.self a.number a.j a.report a.limit (sym r.begins_turn-begins.ensures ∙ r.if-not-begins.false) form r.if-self-eq0.true
 
 -- no such job
-pub returns-then-n-j : goal.returns-then-n-j
-returns-then-n-j r =
-    let i = r.loop-k.invariant in
+pub returns-then-self-j : goal.returns-then-self-j
+returns-then-self-j r =
     let a = r.args in
-    let form = all_seen a.self i.2 i.3 i.4 i.0 r.loop-k-test.false i.5 in
+    let form = sym r.is_in_form.ensures ∙ r.if-not-is_in_form.false in
     let begun = sym r.begins_turn-begins.ensures ∙ r.if-not-begins.false in
     let told = begun_report a.self a.number a.j a.report a.limit begun r.if-number-ne-NO_REPORT.true in
-    r.refused_turn-then-n-j.ensures
-    ∙ turn_absent a.self a.number a.j a.report a.limit told form (ne_eqb _ _ r.if-self-eq0.false) (rw (← i.2) r.if-n-j.true)
+    r.refused_turn-then-self-j.ensures
+    ∙ turn_absent a.self a.number a.j a.report a.limit told form (ne_eqb _ _ r.if-self-eq0.false) r.if-self-j.true
 
 -- the report is refused
 pub returns-then-change-ne0 : goal.returns-then-change-ne0
 returns-then-change-ne0 r =
-    let i = r.loop-k.invariant in
     let a = r.args in
-    let form = all_seen a.self i.2 i.3 i.4 i.0 r.loop-k-test.false i.5 in
+    let form = sym r.is_in_form.ensures ∙ r.if-not-is_in_form.false in
     let begun = sym r.begins_turn-begins.ensures ∙ r.if-not-begins.false in
     let told = begun_report a.self a.number a.j a.report a.limit begun r.if-number-ne-NO_REPORT.true in
-    let made = report_made a.self a.number a.j a.report told form (ne_eqb _ _ r.if-self-eq0.false) (rw (← i.2) r.if-n-j.false) r.plain_change-change.ensures in
+    let made = report_made a.self a.number a.j a.report told form (ne_eqb _ _ r.if-self-eq0.false) r.if-self-j.false (let h = r.held.ensures in rw (h.0, h.1, h.2) at r.plain_change-change.ensures) in
     r.refused_turn-then-change-ne0.ensures ∙ report_refused a.self a.number a.j a.report a.limit told made r.if-change-ne0.true
 
-pub offset_bounds-self-j-then-number-ne-NO_REPORT-2 : goal.offset_bounds-self-j-then-number-ne-NO_REPORT-2
-offset_bounds-self-j-then-number-ne-NO_REPORT-2 c =
-    omega (arith, c.if-n-j.false, c.loop-k.invariant.1)
+pub held-requires : goal.held-requires
+held-requires c =
+    omega (arith, c.if-self-j.false, (form_counts c.args.self (sym c.is_in_form.ensures ∙ c.if-not-is_in_form.false)).few_jobs)
 
-pub bounds-self-j-then-number-ne-NO_REPORT-5 : goal.bounds-self-j-then-number-ne-NO_REPORT-5
-bounds-self-j-then-number-ne-NO_REPORT-5 c =
-    omega (arith, c.if-n-j.false, c.loop-k.invariant.1)
-
-pub bounds-self-j-then-number-ne-NO_REPORT-6 : goal.bounds-self-j-then-number-ne-NO_REPORT-6
-bounds-self-j-then-number-ne-NO_REPORT-6 c =
-    omega (arith, c.if-n-j.false, c.loop-k.invariant.1)
-
-pub bounds-self-j-then-number-ne-NO_REPORT-7 : goal.bounds-self-j-then-number-ne-NO_REPORT-7
-bounds-self-j-then-number-ne-NO_REPORT-7 c =
-    omega (arith, c.if-n-j.false, c.loop-k.invariant.1)
-
-pub bounds-self-j-then-number-ne-NO_REPORT-8 : goal.bounds-self-j-then-number-ne-NO_REPORT-8
-bounds-self-j-then-number-ne-NO_REPORT-8 c =
-    omega (arith, c.if-n-j.false, c.loop-k.invariant.1)
+pub store-requires : goal.store-requires
+store-requires c =
+    omega (arith, c.if-self-j.false, (form_counts c.args.self (sym c.is_in_form.ensures ∙ c.if-not-is_in_form.false)).few_jobs)
 
 pub overflow_cast-noted : goal.overflow_cast-noted
 overflow_cast-noted c =
-    omega (arith, c.if-n-j.false, c.loop-k.invariant.1)
+    omega (arith, c.if-self-j.false, (form_counts c.args.self (sym c.is_in_form.ensures ∙ c.if-not-is_in_form.false)).few_jobs)
 
 -- what a report leaves is in form, and sealed as before
 pub take_steps-requires : goal.take_steps-requires
 unfolding with_job_changed
 take_steps-requires c =
-    let i = c.loop-k.invariant in
     let a = c.args in
-    let form = all_seen a.self i.2 i.3 i.4 i.0 c.loop-k-test.false i.5 in
+    let form = sym c.is_in_form.ensures ∙ c.if-not-is_in_form.false in
     let closed = ne_eqb _ _ c.if-self-eq0.false in
     let begun = sym c.begins_turn-begins.ensures ∙ c.if-not-begins.false in
     (elim c.if-number-ne-NO_REPORT.branch [
-      | then-number-ne-NO_REPORT+else-n-j+else-change-ne0 w ↦ let told = begun_report a.self a.number a.j a.report a.limit begun w.if-number-ne-NO_REPORT.true in
-          let made = report_made a.self a.number a.j a.report told form closed (rw (← i.2) w.if-n-j.false) w.plain_change-change.ensures in
+      | then-number-ne-NO_REPORT+else-self-j+else-change-ne0 w ↦ let told = begun_report a.self a.number a.j a.report a.limit begun w.if-number-ne-NO_REPORT.true in
+          let made = report_made a.self a.number a.j a.report told form closed w.if-self-j.false (let h = w.held.ensures in rw (h.0, h.1, h.2) at w.plain_change-change.ensures) in
           let formed = left_in_form a.self a.number a.j a.report made w.if-change-ne0.false in
-          (ap in_form w.self-is ∙ formed, ap (λ (b : Batch). eqb b.sealed 0) w.self-is ∙ closed, omega (arith, w.first-is), omega (arith, c.at_most-most.ensures))
-      | else-number-ne-NO_REPORT w ↦ (ap in_form w.self-is ∙ form, ap (λ (b : Batch). eqb b.sealed 0) w.self-is ∙ closed, omega (arith, w.first-is), omega (arith, c.at_most-most.ensures))
+          let after = w.self-is ∙ w.store.ensures in
+          (ap in_form after ∙ formed, ap (λ (b : Batch). eqb b.sealed 0) after ∙ closed, omega (arith, w.first-is), omega (arith, c.min.ensures))
+      | else-number-ne-NO_REPORT w ↦ (ap in_form w.self-is ∙ form, ap (λ (b : Batch). eqb b.sealed 0) w.self-is ∙ closed, omega (arith, w.first-is), omega (arith, c.min.ensures))
     ])
 
 -- the steps, after the report or without one
 pub returns : goal.returns
 unfolding with_job_changed
 returns c =
-    let i = c.loop-k.invariant in
     let a = c.args in
-    let form = all_seen a.self i.2 i.3 i.4 i.0 c.loop-k-test.false i.5 in
+    let form = sym c.is_in_form.ensures ∙ c.if-not-is_in_form.false in
     let closed = ne_eqb _ _ c.if-self-eq0.false in
     let begun = sym c.begins_turn-begins.ensures ∙ c.if-not-begins.false in
-    let most = c.at_most-most.ensures in
-    let none = c.no_job_run-none.ensures in
+    let most = c.min.ensures in
+    let none = c.default-none.ensures in
     c.take_steps.ensures
     ∙ (elim c.if-number-ne-NO_REPORT.branch [
-      | then-number-ne-NO_REPORT+else-n-j+else-change-ne0 w ↦ let told = begun_report a.self a.number a.j a.report a.limit begun w.if-number-ne-NO_REPORT.true in
-          let made = report_made a.self a.number a.j a.report told form closed (rw (← i.2) w.if-n-j.false) w.plain_change-change.ensures in
+      | then-number-ne-NO_REPORT+else-self-j+else-change-ne0 w ↦ let told = begun_report a.self a.number a.j a.report a.limit begun w.if-number-ne-NO_REPORT.true in
+          let made = report_made a.self a.number a.j a.report told form closed w.if-self-j.false (let h = w.held.ensures in rw (h.0, h.1, h.2) at w.plain_change-change.ensures) in
           let one : JobRun = record { job = a.j; run = w.plain_change-change.result.run } in
-          same_from w.self-is (w.noted-is ∙ ap (λ (blank : JobRun). set (replicate 17 blank) 0 one) none) w.first-is most
+          same_from (w.self-is ∙ w.store.ensures) (w.noted-is ∙ ap (λ (blank : JobRun). set (replicate 17 blank) 0 one) none) w.first-is most
           ∙ report_goes a.self a.number a.j a.report a.limit told made w.if-change-ne0.false
       | else-number-ne-NO_REPORT w ↦ same_from w.self-is (w.noted-is ∙ ap (replicate 17) none) w.first-is most
           ∙ silent_goes a.self a.number a.j a.report a.limit w.if-number-ne-NO_REPORT.false form closed

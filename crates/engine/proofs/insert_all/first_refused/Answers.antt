@@ -7,25 +7,25 @@ use Rattle.engine.proofs.insert_all.first_refused.Goals as goal
 
 pub loop-k-init : goal.loop-k-init
 loop-k-init c =
-    let e : c.args.list.count - 0 ≡ c.args.list.count = omega arith in
-    (omega arith, omega arith, rw e)
+    let e : c.args.list.now.count - 0 ≡ c.args.list.now.count = omega arith in
+    (omega arith, rw e)
 
 -- 128 jobs are held
 pub returns-then-held-k-ge128 : goal.returns-then-held-k-ge128
 returns-then-held-k-ge128 c =
     let a = c.args in
     sym
-    (c.loop-k.invariant.2
-    ∙ look_full a.held a.cell_count a.list.jobs c.loop-k.k a.list.count c.loop-k-test.true c.if-held-k-ge128.true)
+    (c.loop-k.invariant.1
+    ∙ look_full a.held a.cell_count a.list.now.jobs c.loop-k.k a.list.now.count c.loop-k-test.true c.if-held-k-ge128.true)
 
 -- the job is refused
 pub returns-then-is_refused : goal.returns-then-is_refused
 returns-then-is_refused c =
     let a = c.args in
-    rw c.job_refusal-refusal.ensures
+    rw (c.told-refusal.ensures, c.check.ensures)
     (sym
-    (c.loop-k.invariant.2
-    ∙ look_refused a.held a.cell_count a.list.jobs c.loop-k.k a.list.count c.loop-k-test.true
+    (c.loop-k.invariant.1
+    ∙ look_refused a.held a.cell_count a.list.now.jobs c.loop-k.k a.list.now.count c.loop-k-test.true
     c.if-held-k-ge128.false (sym c.is_refused.ensures ∙ c.if-is_refused.true)))
 
 -- it is not
@@ -33,9 +33,8 @@ pub loop-k-preserved : goal.loop-k-preserved
 loop-k-preserved c =
     let a = c.args in (
       omega arith,
-      omega arith,
-      c.loop-k.invariant.2
-          ∙ look_more a.held a.cell_count a.list.jobs c.loop-k.k a.list.count c.loop-k-test.true c.if-held-k-ge128.false
+      c.loop-k.invariant.1
+          ∙ look_more a.held a.cell_count a.list.now.jobs c.loop-k.k a.list.now.count c.loop-k-test.true c.if-held-k-ge128.false
           (sym c.is_refused.ensures ∙ c.if-is_refused.false),
     )
 
@@ -43,5 +42,5 @@ loop-k-preserved c =
 pub returns : goal.returns
 returns c =
     let a = c.args in
-    let e : a.list.count - c.loop-k.k ≡ 0 = omega arith in
-    sym (c.loop-k.invariant.2 ∙ rw e (look_none a.held a.cell_count a.list.jobs c.loop-k.k))
+    let e : a.list.now.count - c.loop-k.k ≡ 0 = omega arith in
+    rw (c.default.ensures.0, c.default.ensures.1) (sym (c.loop-k.invariant.1 ∙ rw e (look_none a.held a.cell_count a.list.now.jobs c.loop-k.k)))

@@ -7,8 +7,5 @@ use Rattle.engine.proofs.insert_all.first_refused.Given as goal
 -- what the jobs left decide is what all decide
 abbrev pub invariant-loop-k : goal.invariant-loop-k
 invariant-loop-k l =
-    (l.k ≤ l.list.count) × (l.held + l.k ≤ 128)
+    (l.held + l.k ≤ 128)
     × (refused_from l.held l.cell_count l.list.jobs 0 l.list.count ≡ refused_from l.held l.cell_count l.list.jobs l.k (l.list.count - l.k))
-
-abbrev pub decreases-loop-k : goal.decreases-loop-k
-decreases-loop-k l = l.list.count - l.k

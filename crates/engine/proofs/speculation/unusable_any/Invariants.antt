@@ -1,5 +1,4 @@
 -- `unusable_any` meets its contract: a search over the four places.
-use Prim.Native.Nat.{◌≤◌, ◌-◌}
 use mathlib.Core.Bool.{false}
 use mathlib.Core.Path.{◌≡◌}
 use Rattle.laws.specs.Search.{any_below}
@@ -8,7 +7,4 @@ use Rattle.engine.proofs.speculation.unusable_any.Given as goal
 
 -- no place passed has such a source
 abbrev pub invariant-loop-place : goal.invariant-loop-place
-invariant-loop-place l = (l.place ≤ 4) × (any_below l.place (unusable_at l.sources l.phases) ≡ false)
-
-abbrev pub decreases-loop-place : goal.decreases-loop-place
-decreases-loop-place l = 4 - l.place
+invariant-loop-place l = any_below l.place (unusable_at l.sources l.phases) ≡ false

@@ -1,12 +1,10 @@
 -- `read_input` meets its contract: each read that goes on leaves fewer places.
-use Prim.Native.Nat.{◌-◌, ◌≤◌}
-use mathlib.Core.Path.{◌≡◌}
-use lib.ListN.{length}
+use Rattle.std.proofs.Common.{◌≤◌, ◌-◌, length}
 use Rattle.gaugebatch.proofs.input.read_input.Given as goal
 
--- What came lies within the buffer, which keeps its length.
+-- What came lies within the buffer.
 abbrev pub invariant-loop-length : goal.invariant-loop-length
-invariant-loop-length l = (l.length ≤ length l.buffer) × (length l.buffer ≡ length l.initial.buffer)
+invariant-loop-length l = l.length ≤ length l.buffer
 
 -- The places left.
 abbrev pub decreases-loop-length : goal.decreases-loop-length

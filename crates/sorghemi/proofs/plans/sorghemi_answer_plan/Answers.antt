@@ -11,7 +11,7 @@ pub returns-then-buffer-lt-ENOUGH : goal.returns-then-buffer-lt-ENOUGH
 unfolding plan_answered buffer_answered
 returns-then-buffer-lt-ENOUGH c =
     let short = lt-ltb (length c.args.buffer.now) 334861 (omega (arith, c.if-buffer-lt-ENOUGH.true)) in
-    record { value = rw short; buffer_after = rw short }
+    record { value = rw (short, c.from.ensures); buffer_after = rw short }
 
 -- answered
 pub returns : goal.returns

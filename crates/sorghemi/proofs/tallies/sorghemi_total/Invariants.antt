@@ -1,11 +1,8 @@
--- The total so far, gone on with from the tallies that are left, is that of the list.
-use Rattle.std.proofs.Common.{◌≡◌, ◌-◌, length, drop}
-use Rattle.tally.specs.Total.{total_of}
-use Rattle.tally.specs.TotalLaws.{total_from}
+-- The total of the tallies that the loop has passed.
+use Rattle.std.proofs.Common.{◌≡◌, take}
+use Rattle.std.specs.Prelude.{fold}
+use Rattle.tally.specs.Total.{no_total, added_to}
 use Rattle.sorghemi.proofs.tallies.sorghemi_total.Given as goal
 
-abbrev pub invariant-loop-i : goal.invariant-loop-i
-invariant-loop-i l = total_from l.total (drop l.i l.tallies) ≡ total_of l.tallies
-
-abbrev pub decreases-loop-i : goal.decreases-loop-i
-decreases-loop-i l = length l.tallies - l.i
+abbrev pub invariant-loop-tally : goal.invariant-loop-tally
+invariant-loop-tally l = l.total ≡ fold added_to no_total (take l.tally-index l.tallies)

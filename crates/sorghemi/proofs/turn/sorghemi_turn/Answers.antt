@@ -1,7 +1,7 @@
 -- `sorghemi_turn` meets its contract: a turn that is refused leaves the batch and the list as they were, and else the stores
 -- make the turn.
-use Rattle.std.proofs.Common.{◌≡◌, ◌<◌, ◌≤◌, ℕ, suc, List, length, get_or, set, refl, ap, sym, ◌∙◌, arith, add-one, subst}
-use Rattle.std.proofs.lemmas.List.{get_or_default}
+use Rattle.std.proofs.Common.{◌≡◌, ◌<◌, ◌≤◌, ℕ, zero, suc, List, length, get_or, take, set, refl, ap, sym, ◌∙◌, arith, add-one, subst}
+use Rattle.std.proofs.lemmas.List.{get_or_default, get_or-take, length-take}
 use borrow.Author.Tests.{ne_eqb}
 use Rattle.engine.specs.TurnChange.{turn_change, turn_made, runs_stored, no_job_run}
 use Rattle.engine.specs.TurnLaws.{turn_stored}
@@ -9,6 +9,7 @@ use Rattle.engine.specs.TurnPlaces.{turn_few, turn_places}
 use Rattle.engine.specs.declared.Batch.{Batch}
 use Rattle.engine.specs.declared.Report.{Report}
 use Rattle.engine.specs.declared.JobRun.{JobRun}
+use Rattle.engine.specs.declared.Run.{Run}
 use Rattle.engine.specs.declared.TurnChange.{TurnChange}
 use Rattle.sorghemi.specs.Stores.{with_columns}
 use Rattle.sorghemi.specs.Turn.{turned_for}
@@ -29,6 +30,16 @@ module _ (b : Batch) (number j : ℕ) (report : Report) (limit : ℕ) (change : 
     placed : (i : ℕ) → i < change.stored → (get_or change.changed i no_job_run).job < 128
     placed = subst (λ (x : TurnChange). (i : ℕ) → i < x.stored → (get_or x.changed i no_job_run).job < 128) (sym told) (turn_places b number j report limit not_refused)
 
+-- The runs to store are the first of those changed.
+module _ (changed : List JobRun) (n : ℕ) where
+  is_held : (i : ℕ) → i < length (take n changed) → get_or (take n changed) i no_job_run ≡ get_or changed i no_job_run
+  is_held i h = get_or-take n changed i no_job_run (omega (arith, length-take n changed))
+
+  stored_same : (runs : List Run) (i : ℕ) → i ≤ length (take n changed) → runs_stored runs (take n changed) i ≡ runs_stored runs changed i
+  unfolding runs_stored
+  stored_same runs zero h = refl
+  stored_same runs (suc i) h = rw (is_held i (omega arith), stored_same runs i (omega arith))
+
 -- One run more stored.
 more_stored : (b before : Batch) (runs : List JobRun) (i : ℕ) (held : JobRun)
     → b ≡ with_columns before before.cells (runs_stored before.runs runs i) before.committed before.running before.phase
@@ -46,31 +57,31 @@ returns-then-change-ne0 c =
     rw (turn, is_refused) (refl, refl, refl)
 
 -- taken
-pub loop-i-init : goal.loop-i-init
+pub loop-held-init : goal.loop-held-init
 unfolding runs_stored
-loop-i-init c = record { in_range = omega arith; stored_to = refl }
-
-pub bounds-runs-i : goal.bounds-runs-i
-bounds-runs-i c = omega (arith, few c.args.batch.now c.args.number c.args.job c.args.report c.args.limit c.turn-change.result c.turn-change.ensures c.if-change-ne0.false)
+loop-held-init c = refl
 
 pub bounds-batch-held : goal.bounds-batch-held
 bounds-batch-held c =
-    let many : length c.turn-change.result.changed ≡ 17 = c.turn-change.type_inv.1.1.1.1.1.1.0.1.0.1 in
-    let h = placed c.args.batch.now c.args.number c.args.job c.args.report c.args.limit c.turn-change.result c.turn-change.ensures c.if-change-ne0.false c.loop-i.i c.loop-i-test.true in
-    let k = few c.args.batch.now c.args.number c.args.job c.args.report c.args.limit c.turn-change.result c.turn-change.ensures c.if-change-ne0.false in
-    rw (get_or_default c.turn-change.result.changed c.loop-i.i _ no_job_run (omega arith)) h
+    let change = c.turn-change.result in
+    let i = c.loop-held.held-index in
+    let h = placed c.args.batch.now c.args.number c.args.job c.args.report c.args.limit change c.turn-change.ensures c.if-change-ne0.false i
+    (omega (arith, length-take change.stored change.changed, c.loop-held-test.true)) in
+    rw (get_or_default (take change.stored change.changed) i _ no_job_run c.loop-held-test.true, is_held change.changed change.stored i c.loop-held-test.true) h
 
-pub loop-i-preserved : goal.loop-i-preserved
-loop-i-preserved c =
-    let many : length c.turn-change.result.changed ≡ 17 = c.turn-change.type_inv.1.1.1.1.1.1.0.1.0.1 in
-    let k = few c.args.batch.now c.args.number c.args.job c.args.report c.args.limit c.turn-change.result c.turn-change.ensures c.if-change-ne0.false in
-    record {
-      in_range = omega arith;
-      stored_to = rw add-one (more_stored c.loop-i.batch _ c.turn-change.result.changed c.loop-i.i _ c.loop-i.invariant.stored_to (get_or_default c.turn-change.result.changed c.loop-i.i _ no_job_run (omega arith)));
-    }
+pub loop-held-preserved : goal.loop-held-preserved
+loop-held-preserved c =
+    let change = c.turn-change.result in
+    let i = c.loop-held.held-index in
+    rw add-one
+    (more_stored c.loop-held.batch _ (take change.stored change.changed) i _ c.loop-held.invariant
+    (get_or_default (take change.stored change.changed) i _ no_job_run c.loop-held-test.true))
 
 pub returns : goal.returns
 returns c =
-    let turn = made c.args.batch.now c.args.number c.args.job c.args.report c.args.limit c.turn-change.result c.turn-change.ensures in
-    let all : c.loop-i.i ≡ c.turn-change.result.stored = omega arith in
-    rw (turn, c.loop-i.invariant.stored_to, c.if-change-ne0.false, all) (refl, refl, refl)
+    let change = c.turn-change.result in
+    let turn = made c.args.batch.now c.args.number c.args.job c.args.report c.args.limit change c.turn-change.ensures in
+    let k = few c.args.batch.now c.args.number c.args.job c.args.report c.args.limit change c.turn-change.ensures c.if-change-ne0.false in
+    let many : length change.changed ≡ 17 = omega arith in
+    let all : c.loop-held.held-index ≡ change.stored = omega (arith, length-take change.stored change.changed, k, many) in
+    rw (turn, c.loop-held.invariant, c.if-change-ne0.false, all, stored_same change.changed change.stored c.args.batch.now.runs change.stored (omega (arith, length-take change.stored change.changed, k, many))) (refl, refl, refl)

@@ -6,6 +6,3 @@ use Rattle.walk.proofs.origins.Origins.of.Given as goal
 -- the walk has come to job i
 abbrev pub invariant-loop-i : goal.invariant-loop-i
 invariant-loop-i l = (l.i ≤ l.j) × Walked l.jobs l.committed l.j l.i l.walk
-
-abbrev pub decreases-loop-i : goal.decreases-loop-i
-decreases-loop-i l = l.i

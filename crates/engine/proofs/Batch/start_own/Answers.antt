@@ -1,7 +1,0 @@
--- `Batch::start_own` meets its contract.
-use Rattle.engine.specs.ByNumber.{stepped}
-use Rattle.engine.proofs.Batch.start_own.Goals as goal
-
-pub returns : goal.returns
-unfolding stepped
-returns c = c.step.ensures

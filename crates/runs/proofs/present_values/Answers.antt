@@ -1,0 +1,10 @@
+-- `present_values` meets its contract: place by place.
+use Rattle.std.proofs.Common.{rules, tests, pos}
+use Rattle.laws.specs.ClosureLaws.{from_fn_list}
+use Rattle.rules.specs.Values.{present_at}
+use Rattle.runs.proofs.present_values.Goals as goal
+
+pub returns : goal.returns
+returns c =
+    let a = c.args in
+    from_fn_list _ _ (pos 0) (present_at a.job a.cells) (λ x b q k. search (rules, tests)) 4 c.from_fn.ensures.items
