@@ -94,8 +94,8 @@ pub fn judged_rank(running: u8, phase: u8, stale: bool) -> u8
     }
 }
 
-// Ranks, phases and runs are bytes, and jobs are gone through by number: what may not change are `survey`, whose columns lie
-// side by side in the caller, and `judged_rank`; a zip of nine columns is no plainer.
+// Ranks, phases and runs are bytes, as the columns of the C record are, and jobs are gone through by number: a zip of nine
+// columns is no plainer. (The four columns of words could be one array of `Cells`, here and in the engine: not tried.)
 
 /// Fills `ranks` for the first `n` jobs with the rank of each, 0 of a committed one. The words are those of the jobs' cells, and
 /// read for jobs that are not committed alone.

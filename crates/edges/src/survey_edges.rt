@@ -55,7 +55,7 @@ fn told(
 ) -> [u8; 128]
     requires { n ≤ 128 }
 {
-    // A column for each word of the cells: so `survey` takes them, whose signature may not change.
+    // A column for each word of the cells: so `survey` takes them.
     let mut named = [cells.named; 128];
     let mut written = [cells.written; 128];
     let mut sure = [cells.sure; 128];

@@ -45,7 +45,8 @@ impl Batch {
 
     // Number, job and report come one by one from the host, here and in the exported entries.
 
-    /// R50: the step with the number, on job `j`. The report is ignored by the steps that bring none. Refused as that step is, and with 21 for a number above 4.
+    /// R50: the step with the number, on job `j`. The report is ignored by the steps that bring none. Refused as that step is, and
+    /// with 21 for a number above 4.
     pub fn step(mut self, number: u8, j: usize, report: Report) -> Started
         ensures { result ≡ stepped self number j report.values report.wrote }
     {

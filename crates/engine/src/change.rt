@@ -194,6 +194,8 @@ pub(crate) fn speculation_start(
     }
 }
 
+// By the number, as above.
+
 /// How many of the jobs before job `j` the step asks about: of a report none.
 fn asked_below(number: u8, j: usize) -> usize
     ensures { result ≡ asked_below number j }
@@ -231,6 +233,8 @@ impl Batch {
         runs::value_for(self.jobs[writer], values, job.accesses[place].cell)
     }
 
+    // (Four calls and no `from_fn`: each asks that its source is a job's place, which a closure would have to be told.)
+
     /// The guess that is started on job `j`, given where its values come from.
     pub(crate) fn guess(&self, j: usize, origins: Origins) -> Run
         requires { (j < 128) × (origins ≡ origins_of self.now.jobs self.now.committed j) }
@@ -246,8 +250,8 @@ impl Batch {
         new_run([first, second, third, fourth], sources, origins.bypassed)
     }
 
-    // That job `j` has a place is asked here and beside: a type for such a number would be made anew at each entry, of the number
-    // that the host gave, and each entry has to test that the job is held in any case.
+    // That job `j` has a place is asked here and beside: a type for such a number would be made in each entry beside the test that
+    // the job is held, and be unmade for each column, and no clause would be shorter.
 
     /// Job `j` as a step meets it.
     pub(crate) fn held(&self, j: usize) -> Held

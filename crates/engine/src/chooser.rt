@@ -12,6 +12,8 @@ use crate::{Batch, Choice};
 use cellset::survey::judged_rank;
 use refusal::Refusal;
 
+// No Option for no job: `pick_below` begins with a pick of length 0, which each allowed job betters.
+
 /// A job, the length of its chain and how many accesses it has; length 0 where no job is picked.
 #[derive(Clone, Copy, Default)]
 pub(crate) struct Pick {
@@ -26,9 +28,7 @@ fn refused(why: Refusal) -> Choice
 {
     Choice {
         refusal: why as u8,
-        step: 0,
-        job: 0,
-        chain: 0,
+        ..Choice::default()
     }
 }
 
@@ -54,6 +54,8 @@ fn better(pick: Pick, allowed: bool, job: u8, chain: u8, arity: u8) -> Pick
     }
     pick
 }
+
+// By the rank, a number in a column, of which the largest is taken.
 
 /// The number of the step with the rank: 4, 0 or 1.
 pub(crate) fn step_of(rank: u8) -> u8
@@ -86,7 +88,8 @@ impl Ranks {
         lowest
     }
 
-    // Its twin `lowest` differs in the start, the choice and what no place counts as: one method of both would take all three.
+    // Its twin `lowest` differs in the choice and in what no place counts as: one method of both would take the two as arguments.
+    // Each answers a number where there is no such job, and no Option: the definitions do, and it is asked for where there is one.
 
     /// The highest of them; 0 where there is none.
     pub(crate) fn highest(&self, rank: u8) -> u8

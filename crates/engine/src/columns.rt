@@ -8,7 +8,7 @@ use crate::Batch;
 use cellset::Cells;
 use cellset::survey::survey;
 
-// Columns and no array of `Cells`: `survey` is handed them one by one, and its contract stays.
+// Columns and no array of `Cells`: `survey` takes them one by one. (Both could go over to one array together: not tried.)
 
 /// Of each job that is not committed the words of its cells, and how many accesses it has; zeros of the others.
 #[derive(Clone, Copy)]
@@ -42,8 +42,8 @@ impl Columns {
 }
 
 impl Batch {
-    // That the count is in form is asked here and in `ask.rt`: a type for a checked record would hold a reference beside each
-    // argument of six private methods, and their callers know it by one law (`form_counts`).
+    // That the count is in form is asked here and in `ask.rt`: a type for a checked record would be made anew after each store of a
+    // turn, for six private methods whose callers know the fact by one law (`form_counts`).
 
     /// Fills the columns by the jobs held. (They are lent: as a result they would be copied.)
     pub(crate) fn fill(&self, columns: &mut Columns)

@@ -7,7 +7,7 @@ ghost use Rattle.engine.specs.InsertAllPass.{refused_from};
 use crate::{Batch, InsertedAll, JobList};
 use refusal::{Refusal, told};
 
-// Not an Option: the numbers are what `InsertedAll` holds, zeros too, and `is_refused`, which is quick, does not say why.
+// Not an Option: the definition `refused_from` has this record for its value, with zeros where no job is refused.
 
 /// The refusal of a job of a list, and its place there; zeros where no job is refused.
 #[derive(Clone, Copy, Default)]

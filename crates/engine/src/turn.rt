@@ -24,7 +24,7 @@ use walk::origins::Origins;
 const NO_REPORT: u8 = 255;
 
 impl Default for Taken {
-    /// A place in which no step stands.
+    /// A place in which no step stands. (Derived, it would tell of its array place by place.)
     fn default() -> Taken
         ensures { result ≡ no_step }
     {
@@ -37,7 +37,7 @@ impl Default for Taken {
 }
 
 impl Default for JobRun {
-    /// A place in which no run stands.
+    /// A place in which no run stands. (By hand as that of `Run` is, so that its contract is one equation.)
     fn default() -> JobRun
         ensures { result ≡ no_job_run }
     {
@@ -47,7 +47,7 @@ impl Default for JobRun {
 }
 
 impl Default for Report {
-    /// The report of a step that brings none.
+    /// The report of a step that brings none. (Derived, it would tell of its array place by place.)
     fn default() -> Report
         ensures { result ≡ blank_report }
     {
@@ -76,6 +76,8 @@ fn refused_turn(refusal: u8) -> TurnChange
         phase: [0; 128],
     }
 }
+
+// By the number, which hosts give.
 
 /// Whether a turn may begin with the number: it is that of a report, or says that there is none.
 fn begins_turn(number: u8) -> bool

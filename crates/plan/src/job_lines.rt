@@ -4,7 +4,7 @@
 ghost use Rattle.std.specs.Prelude.{◌≡◌};
 ghost use Rattle.plan.specs.Lines.{capped, cell_field_of, cells_from, modes_of, job_with, job_line_of};
 
-use dependence::{Access, Job};
+use dependence::{Access, Job, UNCERTAIN_WRITE, WRITE};
 
 /// What a field of a job line says about a cell.
 #[derive(Clone, Copy)]
@@ -52,16 +52,17 @@ fn cells_from(a: CellField, b: CellField, c: CellField) -> Option<Cells>
     Some(Cells { arity, cells })
 }
 
-// By the number of the line: a kind that there is not has no modes here, and is refused by the engine.
+// A line has no modes: they are made here from the kind's number, and held to admission's table by the engine, which refuses a
+// kind that there is not.
 
 /// The modes of the kind's accesses, 0 in places that it has not.
 fn modes_of(kind: u8) -> [u8; 4]
     ensures { result ≡ modes_of kind }
 {
     match kind {
-        1 | 2 | 5 => [1, 0, 0, 0],
-        3 | 4 => [2, 0, 0, 0],
-        6 => [2, 2, 0, 0],
+        1 | 2 | 5 => [WRITE, 0, 0, 0],
+        3 | 4 => [UNCERTAIN_WRITE, 0, 0, 0],
+        6 => [UNCERTAIN_WRITE, UNCERTAIN_WRITE, 0, 0],
         _ => [0; 4],
     }
 }

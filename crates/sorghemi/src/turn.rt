@@ -21,7 +21,7 @@ pub extern "C" fn sorghemi_turn(
     ensures { (batch.new ≡ (turned_for batch.old number job report limit).batch) × (steps.new ≡ list_after (turned_for batch.old number job report limit) steps.old) × (result ≡ told_of (turned_for batch.old number job report limit)) }
 {
     let change = (*batch).turn(number, job, report, limit);
-    // no `From`: it would take the whole change by value for two fields
+    // no `From` for two fields of a record that the rest of the body takes apart
     let told = Turned {
         refusal: change.refusal,
         count: change.count,
