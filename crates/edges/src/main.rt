@@ -9,6 +9,7 @@ mod pass_edges;
 mod ready_edges;
 mod survey_edges;
 
+use say::Onward;
 use std::io;
 
 fn lines(rt: &impl Print) -> io::Result<()> {
@@ -41,6 +42,6 @@ fn lines(rt: &impl Print) -> io::Result<()> {
 }
 
 fn main(rt: HostRuntime) {
-    // where the output is closed, there is nobody to tell
-    let _ = lines(&rt);
+    // no line of it fails
+    let _ = lines(&Onward(&rt));
 }

@@ -91,8 +91,8 @@ fn main(rt: HostRuntime) {
     let mut input = [0u8; LONGEST_INPUT];
     let n = match input::read_input(&mut rt.stdin(), &mut input) {
         Ok(length) => length,
-        Err(error) => {
-            complain(&rt, "the plan could not be read", error);
+        Err(failed) => {
+            complain(&rt, "the plan could not be read", failed.error);
             return;
         }
     };

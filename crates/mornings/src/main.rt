@@ -8,6 +8,7 @@ mod late;
 mod tell;
 mod week;
 
+use say::Onward;
 use std::io;
 
 fn lines(rt: &impl Print) -> io::Result<()> {
@@ -20,6 +21,6 @@ fn lines(rt: &impl Print) -> io::Result<()> {
 }
 
 fn main(rt: HostRuntime) {
-    // where the output is closed, there is nobody to tell
-    let _ = lines(&rt);
+    // no line of it fails
+    let _ = lines(&Onward(&rt));
 }

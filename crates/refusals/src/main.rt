@@ -10,6 +10,7 @@ mod planner;
 mod reader;
 mod worker;
 
+use say::Onward;
 use std::io;
 
 fn what_to_look_for(rt: &impl Print) -> io::Result<()> {
@@ -42,6 +43,6 @@ fn lines(rt: &impl Print) -> io::Result<()> {
 }
 
 fn main(rt: HostRuntime) {
-    // where the output is closed, there is nobody to tell
-    let _ = lines(&rt);
+    // no line of it fails
+    let _ = lines(&Onward(&rt));
 }

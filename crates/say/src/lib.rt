@@ -1,11 +1,32 @@
-//! How the programs write heights, runs, and answers that are yes or no.
+//! How the programs write heights, runs, and answers that are yes or no, and go on after a line that could not be written.
 #![tactic(auto)]
 
 ghost use Rattle.std.specs.Prelude.{◌≡◌, cond, [], ◌∷◌};
 ghost use Rattle.std.specs.Fmt.{WritesOnOk};
 ghost use Rattle.render.specs.Text.{height_text};
 
-use std::fmt;
+use std::{fmt, io};
+
+/// What the programs print to: where a line could not be written, there is nobody to tell, and the next one is tried.
+#[derive(Drop)]
+pub struct Onward<'a, P: Print>(pub &'a P);
+
+impl<P: Print> Print for Onward<'_, P> {
+    fn print<D: fmt::Display + Drop>(&self, value: D) -> io::Result<()> {
+        let _ = self.0.print(value);
+        Ok(())
+    }
+
+    fn println<D: fmt::Display + Drop>(&self, value: D) -> io::Result<()> {
+        let _ = self.0.println(value);
+        Ok(())
+    }
+
+    fn write_all(&self, bytes: &[u8]) -> io::Result<()> {
+        let _ = self.0.write_all(bytes);
+        Ok(())
+    }
+}
 
 /// Writes a height as the answer to a plan has it.
 fn spell<W: fmt::Write>(height: i32, f: &mut fmt::Formatter<W>) -> fmt::Result
