@@ -18,20 +18,19 @@ of_line P line none fields = go (eqb (field_count line) 2)
     go true = fields
     go false = none
 
--- The step is one of 0 to 4.
+-- The step is one of 0 to 4: by the line's two fields, and of any line.
+pub from_small : (first second : Option ℕ) → (unwrap_or (step_from first second) no_step).step ≤ 4
+from_small None second = omega arith
+from_small (Some step) None = omega arith
+from_small (Some step) (Some job) = small (ltb 4 step) refl
+  where
+    small : (t : Bool) → ltb 4 step ≡ t → (unwrap_or (cond t None (Some (record { step = step; job = job }))) no_step).step ≤ 4
+    small true h = omega arith
+    small false h = ltb-false 4 step h
+
 pub step_small : (line : List ℕ) → (step_tried line).step ≤ 4
 step_small line =
-    of_line (λ said. said.step ≤ 4) line (omega arith) (fields (count_of (field_of line 0)) (count_of (field_of line 1)))
-  where
-    small : (step job : ℕ) (t : Bool) → ltb 4 step ≡ t
-        → (unwrap_or (cond t None (Some (record { step = step; job = job }))) no_step).step ≤ 4
-    small step job true h = omega arith
-    small step job false h = ltb-false 4 step h
-
-    fields : (first second : Option ℕ) → (unwrap_or (step_from first second) no_step).step ≤ 4
-    fields None second = omega arith
-    fields (Some step) None = omega arith
-    fields (Some step) (Some job) = small step job (ltb 4 step) refl
+    of_line (λ said. said.step ≤ 4) line (omega arith) (from_small (count_of (field_of line 0)) (count_of (field_of line 1)))
 
 -- The job is a count.
 pub job_bounded : (line : List ℕ) → (step_tried line).job ≤ 2147483647

@@ -3,8 +3,9 @@ use Rattle.std.specs.List.{slice_split, position_or_len}
 use Rattle.std.specs.Option.{option_map, unwrap_or}
 use denote.Ref.{Bor}
 use Rattle.std.specs.Prelude.{ℕ, not, Option, Some, None, slice_get, ltb, zero, suc, ◌+◌, ◌-◌, ◌<◌, ◌≤◌, min, Bool, true, false, cond, List, [], ◌∷◌, ◌≡◌, refl, eqb, length, take, drop, get_or}
-use Rattle.std.proofs.Common.{ltb-false, sym, ◌∙◌, arith, length-drop, drop-drop, take_all}
-use Rattle.std.proofs.lemmas.List.{drop_min}
+use Rattle.std.proofs.Common.{eq-or-lt_of_le, add-one, sub-one, ltb-false, sym, ◌∙◌, arith, ⊎_elim, eq-eqb, length-drop, drop-cons, drop-drop, take_all}
+use Rattle.std.proofs.lemmas.Bool.{ne_eqb}
+use Rattle.std.proofs.lemmas.List.{drop_min, drop_all}
 use Rattle.text.specs.Pieces.{pieces, piece_end, onto_first, index_of, index_after}
 
 -- There is a first piece.
@@ -38,6 +39,21 @@ index_within separator (byte ∷ rest) = go (eqb byte separator) (index_within s
     go : (t : Bool) → index_of separator rest ≤ length rest → index_after t (index_of separator rest) ≤ suc (length rest)
     go true h = omega arith
     go false h = omega arith
+
+-- A search from place i on: it ends where the separator stands, goes on past another byte, and ends with the bytes.
+pub index_met : (separator : ℕ) (bytes : List ℕ) (i : ℕ) → i < length bytes → get_or bytes i 0 ≡ separator
+    → index_of separator (drop i bytes) ≡ 0
+unfolding index_of index_after
+index_met separator bytes i h e = rw (drop-cons bytes i 0, eq-eqb (get_or bytes i 0) separator e)
+
+pub index_passed : (separator : ℕ) (bytes : List ℕ) (i : ℕ) → i < length bytes → (get_or bytes i 0 ≡ separator → ⊥)
+    → index_of separator (drop i bytes) ≡ suc (index_of separator (drop (i + 1) bytes))
+unfolding index_of index_after
+index_passed separator bytes i h e = rw (add-one, drop-cons bytes i 0, ne_eqb (get_or bytes i 0) separator e)
+
+pub index_end : (separator : ℕ) (bytes : List ℕ) (i : ℕ) → length bytes ≤ i → index_of separator (drop i bytes) ≡ 0
+unfolding index_of
+index_end separator bytes i h = rw (drop_all i bytes h)
 
 -- From a place among the bytes the separator that is found, or the end, is the end of the piece.
 pub end_found : (separator : ℕ) (bytes : List ℕ) (at : ℕ) → at ≤ length bytes
@@ -94,6 +110,17 @@ module _ (separator : ℕ) (bytes : List ℕ) (at stop : ℕ) (is : stop ≡ pie
       let found : stop - at ≡ index_of separator (drop at bytes) = omega (arith, end_found separator bytes at h) in
       let after : at + suc (index_of separator (drop at bytes)) ≡ stop + 1 = omega (arith, end_found separator bytes at h) in
       rw (found, first_piece separator (drop at bytes) (omega arith), drop-drop, after)
+
+  -- In both cases it is the first of the pieces from its start on.
+  pub head_piece : at ≤ length bytes → stop ≤ length bytes
+      → get_or (pieces separator (drop at bytes)) 0 [] ≡ take (stop - at) (drop at bytes)
+  head_piece h k = ⊎_elim (λ q. rw (last_piece h q)) (λ q. rw (next_piece h q)) (eq-or-lt_of_le k)
+
+-- A piece other than the first is a piece of the others, one place earlier.
+pub later_piece : {A : Type 0} (first : A) (others : List A) (n : ℕ) (none : A) → (n ≡ 0 → ⊥)
+    → get_or (first ∷ others) n none ≡ get_or others (n - 1) none
+later_piece first others zero none h = absurd (h refl)
+later_piece first others (suc n) none h = rw sub-one
 
 -- std's word for the parts that `split` gives.
 pub pieces_split : (separator : ℕ) (bytes : List ℕ) → pieces separator bytes ≡ slice_split (λ x. eqb x separator) bytes
