@@ -1,43 +1,60 @@
 -- `mean` meets its contract: in 64 bits the sum, the step and their sum are what they are without a limit.
 use native.Mathlib.Omega.{arith}
 use mathlib.Core.Path.{◌≡◌}
-use Prim.Native.Nat.{◌≤◌}
-use lib.IntN.{ℤ, pos, negsuc, ◌+ℤ◌}
-use lib.Signed.{mag, quot_z}
+use lib.IntN.{ℤ, pos, ◌+ℤ◌}
+use lib.Signed.{quot_z}
 use mir.Facts.{to_z-of_z, sfits_widen}
 use mir.Syntax.{w32, w64}
 use mir.Val.{SFits, to_z, of_z}
-use Rattle.std.specs.Int.{int_signum}
-use Rattle.laws.specs.Signed.{mag_add, summed}
-use Rattle.kinds.specs.Kinds.{mean_of}
-use Rattle.kinds.specs.MeanLaws.{mean_fits, halved_by_sign}
+use Rattle.laws.specs.Signed.{summed}
+use Rattle.kinds.specs.Kinds.{halved}
+use Rattle.kinds.specs.MeanLaws.{outward, outward_fits, halved_by_division, mean_fits}
 use Rattle.kinds.proofs.mean.Goals as goal
+use Rattle.kinds.proofs.mean.Goals.{else-sum-lt0, then-sum-lt0}
 
-small : (z : ℤ) → mag (int_signum z) ≤ 1
-small (pos n) = omega arith
-small (negsuc n) = omega arith
+-- l and r are the two numbers in 64 bits
+both : {a b : ℤ} (l r : ℤ) → SFits w32 a → SFits w32 b → l ≡ to_z w32 (of_z w32 a) → r ≡ to_z w32 (of_z w32 b)
+    → to_z w64 (of_z w64 (to_z w64 (of_z w64 l) +ℤ to_z w64 (of_z w64 r))) ≡ a +ℤ b
+both l r f g left right = rw (left, right) (summed f g)
 
-step_fits : (z : ℤ) → SFits w64 (int_signum z)
-step_fits z = record { sfits = omega (arith, small z) }
+abbrev sum : goal.Joined-sum-lt0 → ℤ
+sum c = c.args.left +ℤ c.args.right
 
-stepped_fits : {a b : ℤ} → SFits w32 a → SFits w32 b → SFits w64 ((a +ℤ b) +ℤ int_signum (a +ℤ b))
-stepped_fits {a} {b} f g =
-    record { sfits = omega (arith, mag_add (a +ℤ b) (int_signum (a +ℤ b)), mag_add a b, small (a +ℤ b), f.sfits, g.sfits) }
+-- the step goes away from zero, on whichever side the sum is
+step : (c : goal.Joined-sum-lt0) → to_z w64 c.if-sum-lt0.away-bits ≡ outward (sum c)
+step c =
+    let f = c.ranges in
+    let s = both _ _ f.left f.right c.from.ensures c.from-2.ensures in
+    (elim c.if-sum-lt0.branch [
+      | then-sum-lt0 below ↦ rw (below.away-is-bits, rw s at below.if-sum-lt0.true)
+      | else-sum-lt0 above ↦ rw (above.away-is-bits, rw s at above.if-sum-lt0.false)
+    ])
 
--- l and r are the two numbers in 64 bits, and s is the step
-half : {a b : ℤ} (l r s : ℤ) → SFits w32 a → SFits w32 b → l ≡ to_z w32 (of_z w32 a) → r ≡ to_z w32 (of_z w32 b)
-    → let sum = to_z w64 (of_z w64 (to_z w64 (of_z w64 l) +ℤ to_z w64 (of_z w64 r))) in
-    s ≡ int_signum sum → to_z w64 (of_z w64 (quot_z (to_z w64 (of_z w64 (sum +ℤ to_z w64 (of_z w64 s)))) (pos 2))) ≡ mean_of a b
-half {a} {b} l r s f g left right step =
-    rw (step, left, right, summed f g, to_z-of_z (step_fits (a +ℤ b)), to_z-of_z (stepped_fits f g), halved_by_sign (a +ℤ b))
-    (to_z-of_z (sfits_widen {w' = w64} tt (mean_fits f g)))
+-- a step further the sum still fits
+pub overflow_add-result : goal.overflow_add-result
+overflow_add-result c =
+    let f = c.ranges in
+    rw (both _ _ f.left f.right c.from.ensures c.from-2.ensures, step c) (outward_fits f.left f.right)
+
+-- divided, it is the mean, which fits 32 bits again
+half : (c : goal.Joined-sum-lt0) → quot_z (to_z w64 (of_z w64 (sum c +ℤ to_z w64 c.if-sum-lt0.away-bits))) (pos 2) ≡ halved (sum c)
+half c =
+    let f = c.ranges in
+    rw (step c, to_z-of_z (outward_fits f.left f.right)) (halved_by_division (sum c))
+
+pub nonzero_div-result : goal.nonzero_div-result
+nonzero_div-result c =
+    let f = c.ranges in
+    (omega arith, rw (both _ _ f.left f.right c.from.ensures c.from-2.ensures, half c) (sfits_widen tt (mean_fits f.left f.right)))
 
 pub overflow_cast-result : goal.overflow_cast-result
 overflow_cast-result c =
     let f = c.ranges in
-    rw (half _ _ _ f.left f.right c.from.ensures c.from-2.ensures c.signum.ensures.value) (mean_fits f.left f.right)
+    let fits = mean_fits f.left f.right in
+    rw (both _ _ f.left f.right c.from.ensures c.from-2.ensures, half c, to_z-of_z (sfits_widen {w' = w64} tt fits)) fits
 
 pub returns : goal.returns
 returns c =
     let f = c.ranges in
-    rw (half _ _ _ f.left f.right c.from.ensures c.from-2.ensures c.signum.ensures.value) (to_z-of_z (mean_fits f.left f.right))
+    let fits = mean_fits f.left f.right in
+    rw (both _ _ f.left f.right c.from.ensures c.from-2.ensures, half c, to_z-of_z (sfits_widen {w' = w64} tt fits), to_z-of_z fits)
