@@ -6,7 +6,7 @@ ghost use Rattle.io.specs.Counts.{IsPrefixLen};
 use std::io::{Error, Read, Stdin};
 
 /// How a read failed, and how many bytes had come: they are not the whole plan.
-#[derive(Drop)]
+#[derive(Clone, Copy)]
 pub struct Failed {
     pub length: usize,
     pub error: Error,
