@@ -60,7 +60,8 @@ pub fn chain_lengths_from(jobs: [Job; 128], job_count: usize, first: usize) -> [
     let mut named = [0u8; 256];
     for j in (first..job_count.min(128)).rev() {
         let job = jobs[j];
-        let length = met_by(&named, job) + 1;
+        let next = met_by(&named, job);
+        let length = next + 1;
         lengths[j] = length;
         note(job, length, &mut named);
     }

@@ -21,9 +21,9 @@ overflow_add-length c =
     let e : l.j ≡ suc (l.j - 1) = omega arith in
     omega (
       arith,
-      c.met_by-length.ensures.0,
+      c.met_by-next.ensures.0,
       chain_short c.args.jobs c.args.job_count (l.j - 1) l.lengths l.named long (omega arith)
-          c.met_by-length.ensures.1 (rw e at l.invariant.1),
+          c.met_by-next.ensures.1 (rw e at l.invariant.1),
     )
 
 pub loop-j-preserved : goal.loop-j-preserved
@@ -34,7 +34,7 @@ loop-j-preserved c =
       omega arith,
       rw c.note.ensures
           (chain_step c.args.jobs c.args.job_count (l.j - 1) l.lengths l.named long (omega arith)
-          c.met_by-length.ensures.1 (rw e at l.invariant.1) (c.met_by-length.result + 1) (add-one _ ∙ ap suc c.met_by-length.ensures.0)),
+          c.met_by-next.ensures.1 (rw e at l.invariant.1) (c.met_by-next.result + 1) (add-one _ ∙ ap suc c.met_by-next.ensures.0)),
     )
 
 -- all from the first one on are
