@@ -1,23 +1,39 @@
 //! The total of many tallies.
 
-ghost use Rattle.std.specs.Prelude.{◌≡◌};
-ghost use Rattle.tally.specs.Total.{sum_of_two, fitting, added, no_total, added_to};
+ghost use Rattle.std.specs.Prelude.{◌≡◌, ltb, ◌+◌};
+ghost use Rattle.tally.specs.Total.{sum_of_two, most, fitting, added, no_total, added_to};
 
 use crate::{Tally, TallyAnswer};
 use refusal::Refusal;
 
+/// Whether the sum does not fit.
+fn is_over(a: u32, b: u32) -> bool
+    ensures { result ≡ ltb most (a + b) }
+{
+    a.checked_add(b).is_none()
+}
+
 impl Tally {
-    /// The five sums, where all of them fit.
+    /// The five sums, where all of them fit. All are tested before one is added: four of the tests are then one vector instruction,
+    /// and so are four of the sums. (With a `?` behind each sum the total of many takes a third more time.)
     #[tactic(auto, unfolding(crate::specs::Total::fitting))]
     fn checked_add(self, other: Tally) -> Option<Tally>
         ensures { result ≡ fitting (sum_of_two self other) }
     {
+        if is_over(self.jobs, other.jobs)
+            || is_over(self.started, other.started)
+            || is_over(self.kept, other.kept)
+            || is_over(self.discarded, other.discarded)
+            || is_over(self.pending, other.pending)
+        {
+            return None;
+        }
         Some(Tally {
-            jobs: self.jobs.checked_add(other.jobs)?,
-            started: self.started.checked_add(other.started)?,
-            kept: self.kept.checked_add(other.kept)?,
-            discarded: self.discarded.checked_add(other.discarded)?,
-            pending: self.pending.checked_add(other.pending)?,
+            jobs: self.jobs + other.jobs,
+            started: self.started + other.started,
+            kept: self.kept + other.kept,
+            discarded: self.discarded + other.discarded,
+            pending: self.pending + other.pending,
         })
     }
 
