@@ -14,8 +14,8 @@ fn is_over(a: u32, b: u32) -> bool
 }
 
 impl Tally {
-    /// The five sums, where all of them fit. All are tested before one is added: four of the tests are then one vector instruction,
-    /// and so are four of the sums. (With a `?` behind each sum the total of many takes a third more time.)
+    /// The five sums, where all of them fit. All are tested before a tally is made of them: four of the tests are then one
+    /// comparison of vectors, and four of the sums one addition. (With a `?` behind each the total of many takes a third more time.)
     #[tactic(auto, unfolding(crate::specs::Total::fitting))]
     fn checked_add(self, other: Tally) -> Option<Tally>
         ensures { result ≡ fitting (sum_of_two self other) }
